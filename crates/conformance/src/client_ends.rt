@@ -2,7 +2,7 @@
 
 use crate::client_end::ClientEnd;
 use crate::keeper::Memory;
-use crate::refusal::{Made, Refusal, restarted};
+use crate::refusal::{Made, Refusal, replaced, restarted};
 use crate::steps::Step;
 use osc_coap::Message;
 use osc_context::Piv;
@@ -42,12 +42,22 @@ impl<const N: usize> ClientEnd for Client<N> {
     }
 
     fn other(&mut self, step: &Step<'_>) -> Made<&'static str> {
-        if step.verb != "skip" {
-            return Err(Refusal::Bad);
+        match step.verb {
+            "skip" => {
+                step.fields.count(1);
+                let skipped = self.skip(step.fields.number(0));
+                skipped.map_err(Refusal::TooFewLeft).map(|()| "skipped")
+            }
+            "replace" => {
+                step.fields.count(2);
+                let Some(context) = step.context() else {
+                    return Err(Refusal::Bad);
+                };
+                let replaced = self.replace(context, step.fields.sequence_number(1));
+                replaced.map_err(Refusal::SameSender).map(|()| "replaced")
+            }
+            _ => Err(Refusal::Bad),
         }
-        step.fields.count(1);
-        let skipped = self.skip(step.fields.number(0));
-        skipped.map_err(Refusal::TooFewLeft).map(|()| "skipped")
     }
 }
 
@@ -81,6 +91,14 @@ impl ClientEnd for KeptClient<Memory<'_>, 2> {
     fn other(&mut self, step: &Step<'_>) -> Made<&'static str> {
         match step.verb {
             "restart" => restarted(KeptClient::restart(self)),
+            "replace" => {
+                step.fields.count(2);
+                let Some(context) = step.context() else {
+                    return Err(Refusal::Bad);
+                };
+                let keeper = Memory::new(step.fields.alloc, step.fields.number(1), "-");
+                replaced(self.replace(context, keeper))
+            }
             _ => Err(Refusal::Bad),
         }
     }

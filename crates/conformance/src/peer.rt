@@ -4,7 +4,7 @@ use crate::answer::Answer;
 use crate::client_end::ClientEnd;
 use crate::fields::Fields;
 use crate::peer_record::RecordMemory;
-use crate::refusal::{Made, Refusal};
+use crate::refusal::{Made, Refusal, replaced};
 use crate::remembering::{self, Remembered};
 use crate::server_end::{Moment, Replied, Reply, Room, ServerEnd, lent};
 use crate::server_ends::answered;
@@ -104,6 +104,19 @@ impl ServerEnd for Asking<'_> {
             } else {
                 "closed"
             }),
+            "replace" => {
+                step.fields.count(4);
+                let Some(context) = step.context() else {
+                    return Err(Refusal::Bad);
+                };
+                let (sender, received) = (step.fields.number(2), step.fields.number(3));
+                let kept = KeptNumbers { sender, received };
+                let keeper = RecordMemory::new(step.fields.alloc, kept, "-");
+                replaced(
+                    self.peer
+                        .replace(context, keeper, step.fields.window_size(1)),
+                )
+            }
             "heed" => {
                 self.heeds = true;
                 Ok("heeds")

@@ -1,9 +1,12 @@
 //! Why an end doesn't make a step.
 
 use crate::answer::Answer;
-use osc_endpoint::{AddRefusal, ReplyError, RequestError, RestartError, SkipError, TooFewLeft};
+use osc_endpoint::{
+    AddRefusal, ReplaceError, ReplyError, RequestError, RestartError, SameSender, SkipError,
+    TooFewLeft,
+};
 use osc_handle::{KeptReplyRefusal, KeptRequestRefusal};
-use osc_kept::KeptError;
+use osc_kept::{KeptError, ReplaceRefusal};
 use osc_peer_handle::PeerRefusal;
 
 /// Why an end doesn't make a step, whichever end it is.
@@ -11,6 +14,9 @@ use osc_peer_handle::PeerRefusal;
 pub(crate) enum Refusal {
     Add(AddRefusal),
     Restart(RestartError),
+    Replace(ReplaceError),
+    SameSender(SameSender),
+    ReplaceKept(ReplaceRefusal),
     Skip(SkipError),
     TooFewLeft(TooFewLeft),
     Kept(KeptError),
@@ -40,6 +46,9 @@ impl Refusal {
         match self {
             Refusal::Add(refusal) => answer.refused(refusal),
             Refusal::Restart(refusal) => answer.refused(refusal),
+            Refusal::Replace(refusal) => answer.refused(refusal),
+            Refusal::SameSender(refusal) => answer.refused(refusal),
+            Refusal::ReplaceKept(refusal) => answer.refused(refusal),
             Refusal::Skip(refusal) => answer.refused(refusal),
             Refusal::TooFewLeft(refusal) => answer.refused(refusal),
             Refusal::Kept(refusal) => answer.refused(refusal),
@@ -69,6 +78,17 @@ pub(crate) fn restarted(kept: Result<(), KeptError>) -> Made<&'static str> {
     match kept {
         Ok(()) => Ok("restarted"),
         Err(refusal) => Err(Refusal::Kept(refusal)),
+    }
+}
+
+/// Returns the word for another context in the place of an end's, whose keeper nobody needs any more.
+pub(crate) fn replaced<K>(kept: Result<K, (ReplaceRefusal, K)>) -> Made<&'static str>
+where
+    K: Drop,
+{
+    match kept {
+        Ok(_) => Ok("replaced"),
+        Err((refusal, _)) => Err(Refusal::ReplaceKept(refusal)),
     }
 }
 

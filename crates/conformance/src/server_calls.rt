@@ -181,7 +181,9 @@ pub(crate) fn make_step<S: ServerEnd>(
 ) {
     match step.verb {
         "add" | "distinct" => add(server, step, answer),
-        "advance" | "is-open" | "skip" | "heed" | "errors" => show_word(server.other(step), answer),
+        "advance" | "is-open" | "replace" | "skip" | "heed" | "errors" => {
+            show_word(server.other(step), answer);
+        }
         "next" => show_next(server, step, answer),
         _ => {
             let ticket = make_event(server, tickets, step, way, answer, left);

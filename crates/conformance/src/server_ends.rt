@@ -1,8 +1,9 @@
 //! The servers.
 
 use crate::keeper::Memory;
-use crate::refusal::{Made, Refusal, restarted};
+use crate::refusal::{Made, Refusal, replaced, restarted};
 use crate::server_end::{Moment, Replied, Reply, Room, ServerEnd, lent};
+use crate::server_events::replacement;
 use crate::steps::Step;
 use osc_coap::Message;
 use osc_context::{Context, Piv};
@@ -63,6 +64,13 @@ impl ServerEnd for Server {
                 let is_open = self.is_open(step.fields.index(0));
                 Ok(if is_open { "open" } else { "closed" })
             }
+            "replace" => {
+                let Some((context, index, start, size)) = replacement(step) else {
+                    return Err(Refusal::Bad);
+                };
+                let replaced = self.replace(index, context, start, size);
+                replaced.map_err(Refusal::Replace).map(|()| "replaced")
+            }
             "skip" => {
                 step.fields.count(2);
                 let skipped = self.skip(step.fields.index(0), step.fields.number(1));
@@ -107,6 +115,14 @@ impl ServerEnd for KeptServer<Memory<'_>> {
     fn other(&mut self, step: &Step<'_>) -> Made<&'static str> {
         match step.verb {
             "restart" => restarted(KeptServer::restart(self)),
+            "replace" => {
+                step.fields.count(3);
+                let Some(context) = step.context() else {
+                    return Err(Refusal::Bad);
+                };
+                let keeper = Memory::new(step.fields.alloc, step.fields.number(2), "-");
+                replaced(self.replace(context, keeper, step.fields.window_size(1)))
+            }
             _ => Err(Refusal::Bad),
         }
     }

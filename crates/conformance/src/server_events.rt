@@ -8,24 +8,25 @@ use osc_endpoint::{Answering, Arrival, Fresh, Notifying, ServerEvent, Start};
 use osc_kept::KeptServerEvent;
 use osc_window::WindowSize;
 
-/// Reads how a context begins: `fresh NEXT SIZE`, `restarted NEXT SIZE`, `received NEXT SIZE HIGHEST` or `reserved NEXT SIZE HIGHEST AHEAD`.
-fn beginning(fields: &Fields<'_>) -> Start {
-    let next = fields.sequence_number(2);
-    if fields.word(1) == "received" {
-        fields.count(5);
-        let highest = fields.sequence_number(4);
+/// Reads from this field on how a context begins, behind which nothing stands: `fresh NEXT SIZE`, `restarted NEXT SIZE`, `received NEXT SIZE
+/// HIGHEST` or `reserved NEXT SIZE HIGHEST AHEAD`.
+fn beginning(fields: &Fields<'_>, from: usize) -> Start {
+    let next = fields.sequence_number(from + 1);
+    if fields.word(from) == "received" {
+        fields.count(from + 4);
+        let highest = fields.sequence_number(from + 3);
         return Start::Received { next, highest };
     }
-    if fields.word(1) == "reserved" {
-        fields.count(6);
+    if fields.word(from) == "reserved" {
+        fields.count(from + 5);
         return Start::Reserved {
             next,
-            highest: fields.sequence_number(4),
-            ahead: fields.number(5),
+            highest: fields.sequence_number(from + 3),
+            ahead: fields.number(from + 4),
         };
     }
-    fields.count(4);
-    if fields.word(1) == "fresh" {
+    fields.count(from + 3);
+    if fields.word(from) == "fresh" {
         Start::Fresh(next)
     } else {
         Start::Restarted(next)
@@ -35,7 +36,23 @@ fn beginning(fields: &Fields<'_>) -> Start {
 /// Reads `add CONTEXT ..`: the context, how it begins, and the size of its window.
 pub(crate) fn addition(step: &Step<'_>) -> Option<(Context, Start, WindowSize)> {
     let context = step.context()?;
-    Some((context, beginning(&step.fields), step.fields.window_size(3)))
+    Some((
+        context,
+        beginning(&step.fields, 1),
+        step.fields.window_size(3),
+    ))
+}
+
+/// Reads `replace CONTEXT INDEX ..`: the context, the index of the one in whose place it is put, how it begins, and the size of its window.
+pub(crate) fn replacement(step: &Step<'_>) -> Option<(Context, usize, Start, WindowSize)> {
+    let context = step.context()?;
+    let start = beginning(&step.fields, 2);
+    Some((
+        context,
+        step.fields.index(1),
+        start,
+        step.fields.window_size(4),
+    ))
 }
 
 /// Reads `take NOW ECHO MID DATAGRAM`. The value `counted` is made by the call.

@@ -60,7 +60,7 @@ impl Step<'_> {
     pub(crate) fn is_event(&self) -> bool {
         !matches!(
             self.verb,
-            "add" | "distinct" | "advance" | "is-open" | "next" | "skip"
+            "add" | "distinct" | "advance" | "is-open" | "next" | "replace" | "skip"
         ) && !self.is_counted()
     }
 

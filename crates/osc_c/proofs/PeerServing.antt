@@ -98,7 +98,7 @@ names_life q new g now mid echo d reply received t row k =
     let of = row.0.2 in
     let m = server.mark_at i (server.Deliver received t) in
     let lives : server.life h i ≡ Some (marked m of) = ap (option_map (marked m)) row.0.3.life_is in
-    let first : i ≡ 0 = only_first (server_of q.server.server.clock k.serves.slots) h i (marked m of) k.serves.agrees k.one lives in
+    let first : i ≡ 0 = only_first (server_of 1 q.server.server.clock k.serves.slots) h i (marked m of) k.serves.agrees k.one lives in
     let b = record q.server.server.slot { next = k.reached } in
     let (slot, at, stands) = slot_at (table_of b) k.serves.slots 0 b k.serves.table refl in
     let (l, life_is, holds) = life_at k.serves.slots (server.life h) 0 (Some slot) k.serves.agrees.places at in

@@ -83,7 +83,7 @@ pub extern "C" fn oscore_peer_begin_first_v5(
     life_ms: u64,
 ) -> u32
     ensures serves { result ≡ 0 → (start : StartOf) × (size : WindowSizeOf) × IsPeerStart 0 start 0 0 × (places_of size ≡ window_places)
-        × ((floor : ℕ) → floor ≤ 0 → ServesBehind peer.new (after (Load 0) (nothing_drawn floor)) (Then Begin (Add (server_in context.now) start size) (Added 0))) }
+        × ((floor : ℕ) → floor ≤ 0 → ServesBehind peer.new (after (Load 0) (nothing_drawn floor)) (Then Begin (Add (server_in context.now) start size 1) (Added 0))) }
     ensures asks { result ≡ 0 → (floor room : ℕ) → floor ≤ 0 → AsksBehind peer.new [] room (after (Load 0) (nothing_drawn floor)) (asked.New (client_in context.now) 0 life_ms) }
     ensures named { result ≡ 0 → (peer.new.received ≡ 0) × (peer.new.name ≡ name_in context.now) × (peer.new.life ≡ 1) × (peer.new.generation ≡ 0) }
     ensures accepts { IsContext context.now → HasPlaces window_places → result ≡ 0 }
@@ -116,7 +116,7 @@ pub extern "C" fn oscore_peer_begin_again_v5(
 ) -> u32
     ensures serves { result ≡ 0 → (start : StartOf) × (size : WindowSizeOf) × IsPeerStart 0 start kept.now.sender kept.now.received × (places_of size ≡ window_places)
         × ((floor : ℕ) → floor ≤ kept.now.sender → ServesBehind peer.new (after (Load kept.now.sender) (nothing_drawn floor))
-        (Then Begin (Add (server_in context.now) start size) (Added 0))) }
+        (Then Begin (Add (server_in context.now) start size 1) (Added 0))) }
     ensures asks { result ≡ 0 → (floor room : ℕ) → floor ≤ kept.now.sender → AsksBehind peer.new [] room (after (Load kept.now.sender) (nothing_drawn floor))
         (asked.New (client_in context.now) kept.now.sender life_ms) }
     ensures named { result ≡ 0 → (peer.new.received ≡ kept.now.received) × (peer.new.name ≡ name_in context.now) × (peer.new.life ≡ kept.now.generation + 1)

@@ -17,7 +17,7 @@ use Rattle.osc_protect.specs.Sealed.{SealsRequest, inside}
 use Rattle.osc_window.specs.declared.window_size.WindowSize.TheVariants.{Places32}
 use Rattle.osc_client.specs.declared.client.Client.{Client}
 use Rattle.osc_life.specs.declared.outcome.Outcome.TheVariants as outcomes
-use Rattle.osc_endpoint.specs.declared.server.Server.{Server}
+use Rattle.osc_endpoint.specs.declared.server.ServerOf.{ServerOf}
 use Rattle.osc_life.specs.declared.start.Start.TheVariants as starts
 use Rattle.osc_endpoint.specs.Agrees.{Agrees}
 use Rattle.osc_client.specs.Agrees.{ClientAgrees}
@@ -61,7 +61,7 @@ carries_none p echo none carries =
 
 -- ---- the server's one context
 
-pub one_life : {v : Server} {h : server.History} → Agrees v h → (of : Life) → server.life h 0 ≡ Some of → ((k : ℕ) → server.life h (suc k) ≡ None) → HasOneLife h of
+pub one_life : {v : ServerOf 1} {h : server.History} → Agrees v h → (of : Life) → server.life h 0 ≡ Some of → ((k : ℕ) → server.life h (suc k) ≡ None) → HasOneLife h of
 one_life agrees of there none zero other is = let same : Some of ≡ Some other = sym there ∙ is in (refl, cc)
 one_life {h = h} agrees of there none (suc k) other is = let both : None ≡ Some other = sym (none k) ∙ is in absurd (cc)
 
@@ -82,7 +82,7 @@ challenge_named laws h of number p d echo i n given issued one seals (j, m, life
     let protects : ProtectsRequest of.context m wants.2 d = subst (λ (l : Life). ProtectsRequest l.context m wants.2 d) here.1 wants.3 in
     (i_is ∙ here.0, n_is ∙ ((laws.request of.context number p d seals).nothing_else m wants.2 protects).0)
 
-pub challenged : (laws : SealedOpens) (h : server.History) (of : Life) (number : ℕ) (p : Parts) (d echo reply : List ℕ) (v : Server) (answer : server.Answer) (given : List ℕ) (issued : ℕ)
+pub challenged : (laws : SealedOpens) (h : server.History) (of : Life) (number : ℕ) (p : Parts) (d echo reply : List ℕ) (v : ServerOf 1) (answer : server.Answer) (given : List ℕ) (issued : ℕ)
     → HasOneLife h of → SealsRequest of.context number p d → given ≡ echo → issued ≡ 0 → Shows (outcomes.Challenge given issued) answer → ServerAnswer h (server.Datagram 0 echo 0 d) (server.Took answer reply)
     → Agrees v (server.Then h (server.Datagram 0 echo 0 d) (server.Took answer reply))
     → ServerGoes h (server.Datagram 0 echo 0 d) (server.Took (server.Challenge 0 number echo 0) reply) v
@@ -96,7 +96,7 @@ challenged laws h of number p d echo reply v answer given issued one seals same 
 
 -- ---- the list
 
-pub goes_through : PremisesCanBeMet → (asker heard anew again : Client 8) (served replied server_anew admitting : Server) (echo : List ℕ)
+pub goes_through : PremisesCanBeMet → (asker heard anew again : Client 8) (served replied server_anew admitting : ServerOf 1) (echo : List ℕ)
     → Start asker served → Exchange asker heard served replied echo
     → ((h : server.History) → Agrees replied h → ServerGoes h (server.Restart 0 64) server.Restarted server_anew)
     → ((h : asking.History) → ClientAgrees heard h → ClientGoes h (asking.Restart 64) asking.Restarted anew)

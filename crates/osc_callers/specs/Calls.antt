@@ -6,7 +6,7 @@ use Rattle.osc_coap.specs.OptionNumbers as options
 use Rattle.osc_coap.specs.Search.{first_of, values_at}
 use Rattle.osc_protect.specs.Sealed.{SealsRequest, inside}
 use Rattle.osc_client.specs.declared.client.Client.{Client}
-use Rattle.osc_endpoint.specs.declared.server.Server.{Server}
+use Rattle.osc_endpoint.specs.declared.server.ServerOf.{ServerOf}
 use Rattle.osc_life.specs.declared.ticket.Ticket.{Ticket}
 use Rattle.osc_endpoint.specs.Agrees.{Agrees}
 use Rattle.osc_client.specs.Agrees.{ClientAgrees}
@@ -24,7 +24,7 @@ abbrev pub ClientGoes : asking.History → asking.Event → asking.Entry → Cli
 ClientGoes h event entry client = ClientAnswer 8 h event entry × ClientAgrees client (asking.Then h event entry)
 
 -- after the history, the server answers the event with this entry, and then agrees with the history continued by both (RFC 8613, 8.2 and 8.3)
-abbrev pub ServerGoes : serving.History → serving.Event → serving.Entry → Server → Type 0
+abbrev pub ServerGoes : serving.History → serving.Event → serving.Entry → ServerOf 1 → Type 0
 ServerGoes h event entry server = ServerAnswer h event entry × Agrees server (serving.Then h event entry)
 
 -- this is the present life of the server's only context (RFC 8613, B.1)
@@ -40,17 +40,17 @@ abbrev pub Hears : Client 8 → ℕ → List ℕ → Client 8 → Type 0
 Hears old n d new = (h : asking.History) → ClientAgrees old h → (v : Received) × ClientGoes h (asking.Datagram 0 d) (asking.Took (asking.Deliver v n)) new
 
 -- after any history, the server delivers the datagram as request n, and sends nothing (RFC 8613, 8.2)
-abbrev pub Delivers : Server → ℕ → List ℕ → List ℕ → Ticket → Server → Type 0
+abbrev pub Delivers : ServerOf 1 → ℕ → List ℕ → List ℕ → Ticket → ServerOf 1 → Type 0
 Delivers old n echo d ticket new = (h : serving.History) (of : Life) → Agrees old h → HasOneLife h of → (r : Received) × (values_of ticket ≡ ticket_of of.count n r)
     × ServerGoes h (serving.Datagram 0 echo 0 d) (serving.Took (serving.Deliver r (ticket_of of.count n r)) []) new
 
 -- after any history, the server challenges the request with the fresh Echo value (RFC 8613, B.1.2)
-abbrev pub Challenges : Server → List ℕ → List ℕ → List ℕ → Server → Type 0
+abbrev pub Challenges : ServerOf 1 → List ℕ → List ℕ → List ℕ → ServerOf 1 → Type 0
 Challenges old echo d reply new = (h : serving.History) (of : Life) (n : ℕ) (p : Parts) → Agrees old h → HasOneLife h of → SealsRequest of.context n p d
     → ServerGoes h (serving.Datagram 0 echo 0 d) (serving.Took (serving.Challenge 0 n echo 0) reply) new
 
 -- after any history, the server replies to the request of a ticket, which registers nothing, without a Partial IV of its own (RFC 8613, 8.3)
-abbrev pub Replies : Server → Ticket → Parts → ℕ → List ℕ → Server → Type 0
+abbrev pub Replies : ServerOf 1 → Ticket → Parts → ℕ → List ℕ → ServerOf 1 → Type 0
 Replies old ticket p room bytes new = (h : serving.History) (t : serving.TicketValues) → Agrees old h → values_of ticket ≡ t → t.observes ≡ false
     → ServerGoes h (serving.Reply t false 0 p room) (serving.Replied bytes) new
 

@@ -7,7 +7,7 @@ use Rattle.osc_context.specs.Views.{number_of}
 use Rattle.osc_context.specs.declared.partial_iv.Piv.{Piv}
 use Rattle.osc_window.specs.declared.window_size.WindowSize.TheVariants.{Places32}
 use Rattle.osc_client.specs.declared.client.Client.{Client}
-use Rattle.osc_endpoint.specs.declared.server.Server.{Server}
+use Rattle.osc_endpoint.specs.declared.server.ServerOf.{ServerOf}
 use Rattle.osc_life.specs.declared.start.Start.TheVariants as starts
 use Rattle.osc_life.specs.declared.ticket.Ticket.{Ticket}
 use Rattle.osc_client.specs.Agrees.{ClientAgrees}
@@ -17,16 +17,16 @@ use Rattle.osc_kept.specs.Examples.{Asked}
 use Rattle.osc_callers.specs.Calls.{Asks, Challenges, Delivers, HasNoEcho, Hears, Replies, ServerGoes}
 
 -- both ends have one context and start at 0, the server fresh (RFC 8613, B.1.1)
-pub record Start (client : Client 8) (server : Server) : Type 0 where
+pub record Start (client : Client 8) (server : ServerOf 1) : Type 0 where
   pub context : SecurityContext
   pub usable : IsUsable context
   pub zero_number : Piv
   pub is_zero : number_of zero_number ≡ 0
   pub client_starts : ClientAgrees client (asking.New context 0 60000)
-  pub server_starts : ServerGoes serving.Begin (serving.Add context (starts.Fresh zero_number) Places32) (serving.Added 0) server
+  pub server_starts : ServerGoes serving.Begin (serving.Add context (starts.Fresh zero_number) Places32 1) (serving.Added 0) server
 
 -- the client asks, the server delivers and replies, and the client hears the reply (RFC 8613, 8.1 to 8.4)
-pub record Exchange (client left_client : Client 8) (server left_server : Server) (echo : List ℕ) : Type 0 where
+pub record Exchange (client left_client : Client 8) (server left_server : ServerOf 1) (echo : List ℕ) : Type 0 where
   pub first : Asked
   pub first_plain : HasNoEcho first.plain
   pub reply : Parts
@@ -34,14 +34,14 @@ pub record Exchange (client left_client : Client 8) (server left_server : Server
   pub response : List ℕ
   pub ticket : Ticket
   pub client_asked : Client 8
-  pub server_delivered : Server
+  pub server_delivered : ServerOf 1
   pub asks : Asks client first.plain first.room first.bytes client_asked
   pub delivers : Delivers server 0 echo first.bytes ticket server_delivered
   pub replies : Replies server_delivered ticket reply room response left_server
   pub hears : Hears client_asked 0 response left_client
 
 -- the client asks, the server challenges, the client hears the challenge and asks again, and the server delivers (RFC 8613, B.1.2)
-pub record GoesOn (client left_client : Client 8) (server left_server : Server) (echo : List ℕ) : Type 0 where
+pub record GoesOn (client left_client : Client 8) (server left_server : ServerOf 1) (echo : List ℕ) : Type 0 where
   pub second : Asked
   pub again : Asked
   pub second_plain : HasNoEcho second.plain
@@ -49,7 +49,7 @@ pub record GoesOn (client left_client : Client 8) (server left_server : Server) 
   pub last : Ticket
   pub client_asked : Client 8
   pub client_told : Client 8
-  pub server_challenged : Server
+  pub server_challenged : ServerOf 1
   pub asks : Asks client second.plain second.room second.bytes client_asked
   pub challenges : Challenges server echo second.bytes challenge server_challenged
   pub is_told : Hears client_asked 64 challenge client_told

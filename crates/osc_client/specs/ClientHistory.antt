@@ -1,6 +1,6 @@
 -- To be believed: the history of a client: what happened to it, each event with its entry. h is a history, d a datagram. Moments are in
 -- milliseconds.
-use Rattle.std.specs.Prelude.{ℕ, ◌+◌, ◌-◌, ◌||◌, ◌&&◌, List, [], ◌∷◌, ◌++◌, Bool, true, false, bytes_eq, filter, map, max, nat_le, nat_lt, not, if◌then◌else◌}
+use Rattle.std.specs.Prelude.{◌≡◌, ℕ, ◌+◌, ◌-◌, ◌||◌, ◌&&◌, List, [], ◌∷◌, ◌++◌, Bool, true, false, bytes_eq, filter, map, max, nat_le, nat_lt, not, if◌then◌else◌}
 use Rattle.osc_coap.specs.declared.format_error.Fault.{Fault}
 use Rattle.osc_coap.specs.Datagram.{Parts}
 use Rattle.osc_context.specs.SecurityContext.{SecurityContext}
@@ -149,3 +149,11 @@ pending_at h moment = alive moment (life_ms h) (asked h)
 -- the pending requests, oldest first (own rule: the time)
 abbrev pub pending : History → List Asked
 pending h = pending_at h (clock h)
+
+-- the history of a client that has another context from then on: that of a new client, whose clock goes on (own rule)
+abbrev pub replaced : SecurityContext → ℕ → History → History
+replaced s first h = Then (New s first (life_ms h)) (Advance (clock h)) Advanced
+
+-- both contexts have the same Sender Key, each seen by its client (RFC 8613, 3.1)
+abbrev pub HaveSameKey : SecurityContext → SecurityContext → Type 0
+HaveSameKey s t = s.client_key ≡ t.client_key

@@ -1,9 +1,9 @@
 //! The client: one context, and the requests that wait for their responses.
 
-ghost use Rattle.std.specs.Prelude.{◌≡◌, ◌≤◌, ◌^◌, OnErr};
+ghost use Rattle.std.specs.Prelude.{◌≡◌, ◌≤◌, ◌^◌, ◌↔◌, IsErr, IsOk, IsTrue, OnErr};
 ghost use Rattle.osc_context.specs.Views.{as_client, number_of};
 
-use crate::client_outcome::TooFewLeft;
+use crate::client_outcome::{SameSender, TooFewLeft};
 use crate::client_state::ClientState;
 use crate::pending::Pending;
 use crate::waiting::forget_in;
@@ -21,7 +21,7 @@ pub struct Client<const N: usize> {
 impl<const N: usize> Client<N> {
     ghost use Rattle.osc_client.specs.Agrees.{ClientAgrees, HasTokensApart, client_parts};
     ghost use Rattle.osc_client.specs.ClientAnswer.{ClientAnswer};
-    ghost use Rattle.osc_client.specs.ClientHistory.{History, New, Then, Advance, Advanced, Forget, Forgot, Restart, Restarted, Skip, next};
+    ghost use Rattle.osc_client.specs.ClientHistory.{History, New, Then, Advance, Advanced, Forget, Forgot, HaveSameKey, Restart, Restarted, Skip, context as context_in, next, replaced};
     ghost use Rattle.osc_client.specs.Views.{skipped_entry};
 
     /// Makes a client with nothing pending. Its requests are pending for `life_ms` milliseconds and no longer, except a registration that
@@ -42,6 +42,40 @@ impl<const N: usize> Client<N> {
     {
         self.state.next = next.number();
         self.pending.clear();
+    }
+
+    /// Puts another context in the place of the client's, as when both ends have made new keys. Drops every pending request, and goes on with
+    /// `next` as the next Sender Sequence Number of that context. The clock doesn't change. A refusal drops the context and changes nothing.
+    /// It looks at the present context alone: you must not bring back one that the client had before (RFC 8613, 3.3).
+    pub fn replace(&mut self, context: Context, next: Piv) -> Result<(), SameSender>
+        ensures replaced { IsOk result → (h : History) → ClientAgrees self.old h → ClientAgrees self.new (replaced (as_client context) (number_of next) h) }
+        ensures same_sender { (h : History) → ClientAgrees self.old h → IsErr result ↔ HaveSameKey (context_in h) (as_client context) }
+        ensures apart { HasTokensApart self.old → HasTokensApart self.new }
+        ensures unchanged { OnErr result (self.new ≡ self.old) }
+    {
+        if self.has_sender_of(&context) {
+            return Err(SameSender);
+        }
+        self.replace_checked(context, next);
+        Ok(())
+    }
+
+    /// Returns whether the client's context has the Sender Key of this one.
+    #[must_use]
+    pub fn has_sender_of(&self, context: &Context) -> bool
+        ensures { (h : History) → ClientAgrees self.now h → IsTrue result ↔ HaveSameKey (context_in h) (as_client context.now) }
+    {
+        self.state.has_sender_of(context)
+    }
+
+    /// Puts a context in the place of the client's, whose Sender Key `has_sender_of` found to be another one.
+    #[doc(hidden)]
+    pub fn replace_checked(&mut self, context: Context, next: Piv)
+        ensures replaced { (h : History) → ClientAgrees self.old h → ClientAgrees self.new (replaced (as_client context) (number_of next) h) }
+        ensures apart { HasTokensApart self.old → HasTokensApart self.new }
+    {
+        self.state.replace(context, next);
+        self.pending = ArrayVec::new();
     }
 
     /// Returns the Sender Sequence Number of the next request, or 2^40 if none is left.

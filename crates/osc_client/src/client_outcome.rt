@@ -66,6 +66,22 @@ impl fmt::Display for TooFewLeft {
 
 impl Error for TooFewLeft {}
 
+/// The context has the Sender Key of the one that it is to replace: both would use the same Sender Sequence Numbers (RFC 8613, 3.3 and 5.2).
+#[derive(Clone, Copy, Debug, PartialEq, Eq)]
+pub struct SameSender;
+
+impl fmt::Display for SameSender {
+    ghost use Rattle.std.specs.Prelude.{Some, codes};
+
+    ghost output = { λ error. Some (codes "SameSender") };
+
+    fn fmt<W: fmt::Write>(&self, f: &mut fmt::Formatter<W>) -> fmt::Result {
+        f.write_str("SameSender")
+    }
+}
+
+impl Error for SameSender {}
+
 /// What a client makes of a datagram: the first of these variants whose condition holds.
 #[derive(Debug, Drop)]
 pub enum ClientOutcome<'b> {

@@ -1,6 +1,6 @@
 //! A client without its pending requests, which lie elsewhere.
 
-ghost use Rattle.std.specs.Prelude.{◌≡◌, ◌≤◌, ◌^◌, OnErr};
+ghost use Rattle.std.specs.Prelude.{◌≡◌, ◌≤◌, ◌^◌, ◌↔◌, IsTrue, OnErr};
 ghost use Rattle.osc_context.specs.Views.{as_client, number_of};
 
 use crate::client_outcome::TooFewLeft;
@@ -26,7 +26,7 @@ impl ClientState {
     ghost use Rattle.std.specs.Prelude.{List, []};
     ghost use Rattle.osc_client.specs.Agrees.{PartsAgree, TokensDiffer, next_of, parts_over};
     ghost use Rattle.osc_client.specs.ClientAnswer.{SkipAnswer};
-    ghost use Rattle.osc_client.specs.ClientHistory.{Asked, History, Then, Advance, Advanced, Skip};
+    ghost use Rattle.osc_client.specs.ClientHistory.{Asked, HaveSameKey, History, Then, Advance, Advanced, Skip};
     ghost use Rattle.osc_client.specs.Views.{skipped_entry};
     ghost use Rattle.osc_protect.specs.Views.{context_of};
 
@@ -58,6 +58,21 @@ impl ClientState {
                 None => OWN_LIMIT,
             },
         }
+    }
+
+    /// Returns whether the client's context has the Sender Key of this one.
+    pub(crate) fn has_sender_of(&self, context: &Context) -> bool
+        ensures { IsTrue result ↔ HaveSameKey (as_client (context_of self.now.context)) (as_client context.now) }
+    {
+        self.context.context().has_sender_of(context)
+    }
+
+    /// Puts another context in the place of the client's, with its next number. The clock goes on.
+    pub(crate) fn replace(&mut self, context: Context, next: Piv)
+        ensures { parts_over self.new [] ≡ record { context = as_client context; life_ms = self.old.life_ms; clock = self.old.clock; next = number_of next; pending = [] } }
+    {
+        self.context = KeyedContext::new(context);
+        self.next = next.number();
     }
 
     /// Returns the clock: the greatest timestamp so far, in milliseconds.

@@ -11,7 +11,7 @@ mod pending;
 mod waiting;
 
 pub use client::Client;
-pub use client_outcome::{ClientOutcome, RequestError, TooFewLeft};
+pub use client_outcome::{ClientOutcome, RequestError, SameSender, TooFewLeft};
 pub use decision::ClientDecision;
 
 /// A client in parts, for the crates that keep one elsewhere: all but its requests, and the table in which these lie. If you have a client,

@@ -1,19 +1,20 @@
--- A context that is added.
+-- A context that is added, and one that takes the place of another.
 use Rattle.std.proofs.Common.{◌≡◌, ℕ, zero, suc, ◌+◌, ◌<◌, ◌≤◌, ◌∙◌, sym, ap, subst, refl, arith, Bool, true, false, Option, Some, None, List, [], ◌∷◌, ◌++◌, length, length-append, if◌then◌else◌, inl, inr}
-use Rattle.std.specs.Prelude.{slice_get, ◌==◌, cond}
+use Rattle.std.specs.Prelude.{slice_get, ◌==◌, ◌≢◌, cond, unwrap_or}
+use Rattle.std.specs.Option.{option_map}
 use Rattle.std.proofs.lemmas.Bool.{eq-eqb, ne_eqb, cases_eq, cases_order}
 use Rattle.std.proofs.lemmas.Option.{slice_get_past}
 use Rattle.osc_context.specs.SecurityContext.{SecurityContext}
 use Rattle.osc_window.specs.declared.window_size.WindowSize.{WindowSize}
-use Rattle.osc_endpoint.specs.declared.server.Server.{Server}
+use Rattle.osc_endpoint.specs.declared.server.ServerOf.{ServerOf}
 use Rattle.osc_life.specs.declared.slot.Slot.{Slot}
 use Rattle.osc_life.specs.declared.start.Start.{Start}
 use Rattle.osc_life.specs.declared.start.Start.TheVariants.{Fresh, Restarted, Received, Reserved}
 use Rattle.osc_endpoint.specs.Agrees.{Agrees, PlaceAgrees, TableAgrees}
 use Rattle.osc_life.specs.Agrees.{HoldsLife, SlotAgrees}
-use Rattle.osc_life.specs.Life.{Life, born}
+use Rattle.osc_life.specs.Life.{Life, born, succeeding}
 use Rattle.osc_endpoint.specs.ServerAnswer.{HaveSameLookup, IsTaken}
-use Rattle.osc_life.specs.ServerHistory.{History, Then, Add, Added, life}
+use Rattle.osc_life.specs.ServerHistory.{History, Then, Add, Added, Replace, Replaced, life}
 
 slice_get-pushed : (xs : List (Option Slot)) (y : Option Slot) → slice_get (xs ++ y ∷ []) (length xs) ≡ Some y
 slice_get-pushed [] y = refl
@@ -58,11 +59,11 @@ table_push slots lives s l n table k is = record {
 }
 
 -- where a life is read behind an addition
-life_now : (h : History) (s : SecurityContext) (start : Start) (size : WindowSize) (n i : ℕ) (of : Life) → life (Then h (Add s start size) (Added n)) i ≡ Some of
+life_now : (h : History) (s : SecurityContext) (start : Start) (size : WindowSize) (places n i : ℕ) (of : Life) → life (Then h (Add s start size places) (Added n)) i ≡ Some of
     → (b : Bool) → (i == n) ≡ b → cond b (Some (born s start size)) (life h i) ≡ Some of
-life_now h s start size n i of e b f = subst (λ c. cond c (Some (born s start size)) (life h i) ≡ Some of) f e
+life_now h s start size places n i of e b f = subst (λ c. cond c (Some (born s start size)) (life h i) ≡ Some of) f e
 
-born_context : (s : SecurityContext) (start : Start) (size : WindowSize) (of : Life) → Some (born s start size) ≡ Some of → s ≡ of.context
+pub born_context : (s : SecurityContext) (start : Start) (size : WindowSize) (of : Life) → Some (born s start size) ≡ Some of → s ≡ of.context
 born_context s (Fresh next) size of e = let f : born s (Fresh next) size ≡ of = cc in ap (λ (l : Life). l.context) f
 born_context s (Restarted next) size of e = let f : born s (Restarted next) size ≡ of = cc in ap (λ (l : Life). l.context) f
 born_context s (Received next highest) size of e = let f : born s (Received next highest) size ≡ of = cc in ap (λ (l : Life). l.context) f
@@ -76,32 +77,64 @@ OneBy R h = (i j : ℕ) (of other : Life) → life h i ≡ Some of → life h j 
 abbrev pub HasBy : (SecurityContext → SecurityContext → Type 0) → History → SecurityContext → Type 0
 HasBy R h s = (i : ℕ) × (of : Life) × (life h i ≡ Some of) × R of.context s
 
-pub one_more : (R : SecurityContext → SecurityContext → Type 0) → ((s t : SecurityContext) → R s t → R t s) → (h : History) (s : SecurityContext) (start : Start) (size : WindowSize) (n : ℕ)
-    → OneBy R h → (HasBy R h s → ⊥) → OneBy R (Then h (Add s start size) (Added n))
-one_more R turned h s start size n each free i j of other e f same = elim (cases_eq i n) [
+pub one_more : (R : SecurityContext → SecurityContext → Type 0) → ((s t : SecurityContext) → R s t → R t s) → (h : History) (s : SecurityContext) (start : Start) (size : WindowSize) (places n : ℕ)
+    → OneBy R h → (HasBy R h s → ⊥) → OneBy R (Then h (Add s start size places) (Added n))
+one_more R turned h s start size places n each free i j of other e f same = elim (cases_eq i n) [
   | inl a ↦ elim (cases_eq j n) [
     | inl b ↦ a ∙ sym b
     | inr c ↦
-        let here = born_context s start size of (life_now h s start size n i of e true (eq-eqb i n a)) in
-        absurd (free (j, other, life_now h s start size n j other f false (ne_eqb j n c), subst (R other.context) (sym here) (turned of.context other.context same)))
+        let here = born_context s start size of (life_now h s start size places n i of e true (eq-eqb i n a)) in
+        absurd (free (j, other, life_now h s start size places n j other f false (ne_eqb j n c), subst (R other.context) (sym here) (turned of.context other.context same)))
   ]
   | inr a ↦ elim (cases_eq j n) [
     | inl b ↦
-        let here = born_context s start size other (life_now h s start size n j other f true (eq-eqb j n b)) in
-        absurd (free (i, of, life_now h s start size n i of e false (ne_eqb i n a), subst (R of.context) (sym here) same))
-    | inr c ↦ each i j of other (life_now h s start size n i of e false (ne_eqb i n a)) (life_now h s start size n j other f false (ne_eqb j n c)) same
+        let here = born_context s start size other (life_now h s start size places n j other f true (eq-eqb j n b)) in
+        absurd (free (i, of, life_now h s start size places n i of e false (ne_eqb i n a), subst (R of.context) (sym here) same))
+    | inr c ↦ each i j of other (life_now h s start size places n i of e false (ne_eqb i n a)) (life_now h s start size places n j other f false (ne_eqb j n c)) same
+  ]
+]
+
+-- a context that takes the place of another
+pub succeeded_context : (s : SecurityContext) (start : Start) (size : WindowSize) (o : Option Life) (of : Life) → option_map (succeeding s start size) o ≡ Some of → s ≡ of.context
+succeeded_context s start size None of e = absurd (let e' : None ≡ Some of = e in cc)
+succeeded_context s start size (Some l) of e =
+    let is : succeeding s start size l ≡ of = ap (λ (o : Option Life). unwrap_or o of) e in
+    born_context s start size (born s start size) refl ∙ ap (λ (x : Life). x.context) is
+
+life_then : (h : History) (i : ℕ) (s : SecurityContext) (start : Start) (size : WindowSize) (j : ℕ) (of : Life) → life (Then h (Replace i s start size) Replaced) j ≡ Some of
+    → (b : Bool) → (j == i) ≡ b → cond b (option_map (succeeding s start size) (life h j)) (life h j) ≡ Some of
+life_then h i s start size j of e b f = subst (λ c. cond c (option_map (succeeding s start size) (life h j)) (life h j) ≡ Some of) f e
+
+-- no other context than this one is so related to that one
+abbrev pub HasNoneBeside : (SecurityContext → SecurityContext → Type 0) → History → ℕ → SecurityContext → Type 0
+HasNoneBeside R h i s = (j : ℕ) (of : Life) → j ≢ i → life h j ≡ Some of → R of.context s → ⊥
+
+pub one_replaced : (R : SecurityContext → SecurityContext → Type 0) → ((s t : SecurityContext) → R s t → R t s) → (h : History) (i : ℕ) (s : SecurityContext) (start : Start) (size : WindowSize)
+    → HasNoneBeside R h i s → OneBy R h → OneBy R (Then h (Replace i s start size) Replaced)
+one_replaced R turned h i s start size free each j k of other e f same = elim (cases_eq j i) [
+  | inl a ↦ elim (cases_eq k i) [
+    | inl b ↦ a ∙ sym b
+    | inr c ↦
+        let here = succeeded_context s start size (life h j) of (life_then h i s start size j of e true (eq-eqb j i a)) in
+        absurd (free k other c (life_then h i s start size k other f false (ne_eqb k i c)) (subst (R other.context) (sym here) (turned of.context other.context same)))
+  ]
+  | inr a ↦ elim (cases_eq k i) [
+    | inl b ↦
+        let here = succeeded_context s start size (life h k) other (life_then h i s start size k other f true (eq-eqb k i b)) in
+        absurd (free j of a (life_then h i s start size j of e false (ne_eqb j i a)) (subst (R of.context) (sym here) same))
+    | inr c ↦ each j k of other (life_then h i s start size j of e false (ne_eqb j i a)) (life_then h i s start size k other f false (ne_eqb k i c)) same
   ]
 ]
 
 pub lookup_turned : (s t : SecurityContext) → HaveSameLookup s t → HaveSameLookup t s
 lookup_turned s t same = (sym same.0, sym same.1)
 
-pub agrees_added : (old new : Server) (h : History) (s : SecurityContext) (start : Start) (size : WindowSize) (slot : Slot) (n : ℕ) → Agrees old h → (IsTaken h s → ⊥)
+pub agrees_added : {N : ℕ} (old new : ServerOf N) (h : History) (s : SecurityContext) (start : Start) (size : WindowSize) (places : ℕ) (slot : Slot) (n : ℕ) → Agrees old h → (IsTaken h s → ⊥)
     → new.clock ≡ old.clock → n ≡ length old.slots.items → new.slots.items ≡ old.slots.items ++ Some slot ∷ [] → SlotAgrees slot (born s start size)
-    → Agrees new (Then h (Add s start size) (Added n))
-agrees_added old new h s start size slot n a free same index items begins = record {
+    → Agrees new (Then h (Add s start size places) (Added n))
+agrees_added old new h s start size places slot n a free same index items begins = record {
   clock_is = same ∙ a.clock_is;
   contexts = ap (λ (xs : List (Option Slot)). length xs) items ∙ length-append old.slots.items (Some slot ∷ []) ∙ ap (λ k. k + 1) a.contexts;
   places = subst (λ xs. TableAgrees xs (λ i. if i == n then Some (born s start size) else life h i)) (sym items) (table_push old.slots.items (life h) (Some slot) (born s start size) n a.places begins index);
-  one_each = one_more HaveSameLookup lookup_turned h s start size n a.one_each free;
+  one_each = one_more HaveSameLookup lookup_turned h s start size places n a.one_each free;
 }

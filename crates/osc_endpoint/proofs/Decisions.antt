@@ -1,6 +1,6 @@
 -- What a server decides of a datagram, after a history.
 use Rattle.std.proofs.Common.{◌≡◌, ℕ, ◌∙◌, sym, ap, subst, refl, Bool, true, Option, Some, None, Result, Ok, Err, List, [], ◌++◌, length, take, drop}
-use Rattle.std.specs.Prelude.{slice_get, max, unwrap_or}
+use Rattle.std.specs.Prelude.{slice_get, ◌==◌, max, unwrap_or}
 use Rattle.std.specs.List.{refill}
 use Rattle.std.specs.Option.{option_map}
 use Rattle.std.proofs.Math.Seq.{take-append_seam}
@@ -23,9 +23,11 @@ use Rattle.osc_life.specs.declared.asker.Asker.{Asker}
 use Rattle.osc_life.specs.declared.decision.Decided.{Decided}
 use Rattle.osc_life.specs.declared.decision.Decision.TheVariants as decisions
 use Rattle.osc_life.specs.declared.judging.Named.{Named}
-use Rattle.osc_endpoint.specs.declared.server.Server.{Server}
+use Rattle.osc_endpoint.specs.declared.server.ServerOf.{ServerOf}
 use Rattle.osc_life.specs.declared.slot.Slot.{Slot}
 use Rattle.osc_life.specs.declared.start.Fresh.{Fresh}
+use Rattle.osc_life.specs.declared.start.Start.{Start}
+use Rattle.osc_window.specs.declared.window_size.WindowSize.{WindowSize}
 use Rattle.osc_endpoint.specs.Agrees.{Agrees, PlaceAgrees, TableAgrees}
 use Rattle.osc_life.specs.Agrees.{HoldsLife}
 use Rattle.osc_life.specs.Deciding.{Decides}
@@ -35,16 +37,18 @@ use Rattle.osc_life.specs.Judging.{IsAskerOf, IsNamed, IsNamedAt, LooksUp}
 use Rattle.osc_endpoint.specs.Table.{NamedAnswer, TableJudges}
 use Rattle.osc_life.specs.Life.{Life, Mark, marked}
 use Rattle.osc_life.specs.declared.server_error.ReplyError.{ReplyError}
+use Rattle.osc_life.specs.declared.server_error.RestartError.{RestartError}
 use Rattle.osc_life.specs.declared.server_error.SkipError.{SkipError}
 use Rattle.osc_life.specs.Replies.{as_reply, error_message, no_context}
 use Rattle.osc_endpoint.specs.Replying.{marks_at}
-use Rattle.osc_endpoint.specs.Restarting.{skip_marks}
+use Rattle.osc_endpoint.specs.Restarting.{lives_after, lives_with, skip_marks}
 use Rattle.osc_life.specs.LifeAnswer.{Arrival}
-use Rattle.osc_endpoint.specs.ServerAnswer.{TakeAnswer, arrival}
+use Rattle.osc_endpoint.specs.ServerAnswer.{HaveSameLookup, ReplaceAnswer, TakeAnswer, arrival}
 use Rattle.osc_life.specs.ServerHistory as server
-use Rattle.osc_life.specs.Views.{reply_entry, skipped_entry}
+use Rattle.osc_life.specs.Views.{reply_entry, restarted_entry, skipped_entry}
 use Rattle.osc_life.proofs.Judgments.{says_error}
-use Rattle.osc_endpoint.proofs.KeptContexts.{one_marked}
+use Rattle.osc_endpoint.proofs.Additions.{lookup_turned, one_replaced}
+use Rattle.osc_endpoint.proofs.KeptContexts.{one_kept, one_marked, restarted_context}
 use Rattle.osc_endpoint.proofs.Places.{same_life, slot_at}
 
 -- what is written back where the table keeps its length
@@ -67,7 +71,7 @@ row_answers h a server.SequenceExhausted reply (i, n, of, request, (meets, says)
 row_answers h a (server.Deliver received ticket) reply (i, n, of, request, (meets, says)) = ((i, n, of, request, meets), says)
 
 -- the server after an answer
-pub agrees_took : (old new : Server) (h : server.History) (now mid : ℕ) (echo d reply : List ℕ) (answer : server.Answer)
+pub agrees_took : {N : ℕ} (old new : ServerOf N) (h : server.History) (now mid : ℕ) (echo d reply : List ℕ) (answer : server.Answer)
     → Agrees old h → new.clock ≡ max old.clock now → length new.slots.items ≡ length old.slots.items
     → TableAgrees new.slots.items (λ i. option_map (marked (server.mark_at i answer)) (server.life h i))
     → Agrees new (server.Then h (server.Datagram now echo mid d) (server.Took answer reply))
@@ -95,7 +99,7 @@ head_row h a p none.NoOscore reply datagram refuses says = ((p, datagram, refuse
 head_row h a p none.Undecodable reply datagram refuses says = ((p, datagram, refuses), says)
 
 -- a datagram without a head of a request
-pub headless : (old new : Server) (h : server.History) (now : ℕ) (fresh : Fresh) (d reply : List ℕ) (result : Decided) (p : Parts) (e : NoHead)
+pub headless : {N : ℕ} (old new : ServerOf N) (h : server.History) (now : ℕ) (fresh : Fresh) (d reply : List ℕ) (result : Decided) (p : Parts) (e : NoHead)
     → Agrees old h → new.clock ≡ max old.clock now → new.slots ≡ old.slots
     → IsDatagram p d → ShowsNoRequestHead p e → Decides result.decision d (head_answer e) → HeadReply e d fresh.mid reply
     → DecidesTo h now fresh d result d reply new
@@ -109,7 +113,7 @@ headless old new h now fresh d reply result p e a clock slots datagram refuses d
     }
 
 -- bytes that are no message
-pub malformed : (old new : Server) (h : server.History) (now : ℕ) (fresh : Fresh) (d : List ℕ) (e : FormatError)
+pub malformed : {N : ℕ} (old new : ServerOf N) (h : server.History) (now : ℕ) (fresh : Fresh) (d : List ℕ) (e : FormatError)
     → Agrees old h → new.clock ≡ max old.clock now → new.slots ≡ old.slots → HasFault d e.fault e.place
     → DecidesTo h now fresh d (record { decision = decisions.Malformed e; reply = 0 }) d [] new
 malformed old new h now fresh d e a clock slots fault =
@@ -128,7 +132,7 @@ looks_held (Some s) l kid kid_context holds a b =
     (ap (λ (c : SecurityContext). c.client) holds.context ∙ a, ap (λ (c : SecurityContext). c.id_context) holds.context ∙ b)
 
 -- no context of the table is one of the history
-pub unnamed : (old new : Server) (h : server.History) (now : ℕ) (fresh : Fresh) (d reply : List ℕ) (len : ℕ) (x : RequestHead) (asker : Asker) (slots : List (Option Slot))
+pub unnamed : {N : ℕ} (old new : ServerOf N) (h : server.History) (now : ℕ) (fresh : Fresh) (d reply : List ℕ) (len : ℕ) (x : RequestHead) (asker : Asker) (slots : List (Option Slot))
     → Agrees old h → new.clock ≡ max old.clock now → new.slots ≡ old.slots → slots ≡ old.slots.items
     → HasRequestHead d (seen_head x)
     → ((i : ℕ) (s : Option Slot) → slice_get slots i ≡ Some s → LooksUp s x.kid.now (shown x.kid_context) → ⊥)
@@ -169,7 +173,7 @@ named_life : (p : Option Slot) (r : Named) (d : List ℕ) (l : Life) → IsNamed
 named_life None r d l named holds = absurd named
 named_life (Some s) r d l named holds = subst (λ c. IsNamed c (number_of r.number) d) holds.context named.0
 
-pub judged : (old new : Server) (h : server.History) (now : ℕ) (fresh : Fresh) (d after reply : List ℕ) (result : Decided) (r : Named) (slots : List (Option Slot)) (s : Option Slot)
+pub judged : {N : ℕ} (old new : ServerOf N) (h : server.History) (now : ℕ) (fresh : Fresh) (d after reply : List ℕ) (result : Decided) (r : Named) (slots : List (Option Slot)) (s : Option Slot)
     → Agrees old h → new.clock ≡ max old.clock now → r.clock ≡ max old.clock now → r.fresh ≡ fresh
     → new.slots.items ≡ slots → length slots ≡ length old.slots.items
     → slice_get old.slots.items r.index ≡ Some s → IsNamedAt s r d
@@ -202,7 +206,7 @@ judged old new h now fresh d after reply result r slots s a clock moment same_fr
     }
 
 -- the server after an answer that leaves a mark in each life, or none
-agrees_marked : (old new : Server) (h g : server.History) (m : ℕ → Option Mark) → Agrees old h → new.clock ≡ old.clock → length new.slots.items ≡ length old.slots.items
+agrees_marked : {N : ℕ} (old new : ServerOf N) (h g : server.History) (m : ℕ → Option Mark) → Agrees old h → new.clock ≡ old.clock → length new.slots.items ≡ length old.slots.items
     → server.clock g ≡ server.clock h → server.added g ≡ server.added h → ((i : ℕ) → server.life g i ≡ option_map (marked (m i)) (server.life h i))
     → TableAgrees new.slots.items (server.life g) → Agrees new g
 agrees_marked old new h g m a clock len moment count lives table =
@@ -214,7 +218,7 @@ agrees_marked old new h g m a clock len moment count lives table =
     }
 
 -- the server after a reply
-pub agrees_replied : (old new : Server) (h : server.History) (t : server.TicketValues) (own : Bool) (mid room : ℕ) (plain : Parts) (bytes : List ℕ)
+pub agrees_replied : {N : ℕ} (old new : ServerOf N) (h : server.History) (t : server.TicketValues) (own : Bool) (mid room : ℕ) (plain : Parts) (bytes : List ℕ)
     → Agrees old h → new.clock ≡ old.clock → length new.slots.items ≡ length old.slots.items
     → TableAgrees new.slots.items (λ i. option_map (marked (server.reply_mark_at i t own)) (server.life h i))
     → Agrees new (server.Then h (server.Reply t own mid plain room) (server.Replied bytes))
@@ -222,7 +226,7 @@ agrees_replied old new h t own mid room plain bytes a clock len table =
     agrees_marked old new h (server.Then h (server.Reply t own mid plain room) (server.Replied bytes)) (λ i. server.reply_mark_at i t own) a clock len refl refl (λ i. refl) table
 
 -- the server after a notification, or after one that is refused
-pub agrees_notified : (old new : Server) (h : server.History) (t : server.TicketValues) (room : ℕ) (plain : Parts) (result : Result ℕ ReplyError) (out : List ℕ)
+pub agrees_notified : {N : ℕ} (old new : ServerOf N) (h : server.History) (t : server.TicketValues) (room : ℕ) (plain : Parts) (result : Result ℕ ReplyError) (out : List ℕ)
     → Agrees old h → new.clock ≡ old.clock → length new.slots.items ≡ length old.slots.items
     → TableAgrees new.slots.items (λ i. option_map (marked (marks_at result i t true)) (server.life h i))
     → Agrees new (server.Then h (server.Notify t plain room) (reply_entry result out))
@@ -234,7 +238,7 @@ agrees_notified old new h t room plain (Err e) out a clock len table =
     (record { at = λ i. subst (λ (o : Option Life). PlaceAgrees (slice_get new.slots.items i) o) (same i) (table.at i) })
 
 -- the server after numbers are passed over, or after that is refused
-pub agrees_skipped : (old new : Server) (h : server.History) (i count : ℕ) (result : Result Unit SkipError)
+pub agrees_skipped : {N : ℕ} (old new : ServerOf N) (h : server.History) (i count : ℕ) (result : Result Unit SkipError)
     → Agrees old h → new.clock ≡ old.clock → length new.slots.items ≡ length old.slots.items
     → TableAgrees new.slots.items (λ j. option_map (marked (skip_marks result j i count)) (server.life h j))
     → Agrees new (server.Then h (server.Skip i count) (skipped_entry result))
@@ -244,3 +248,30 @@ agrees_skipped old new h i count (Err e) a clock len table =
     let same : (j : ℕ) → option_map (marked None) (server.life h j) ≡ server.life h j = λ j. same_life (server.life h j) None refl in
     agrees_marked old new h (server.Then h (server.Skip i count) (server.NotSkipped e)) (λ j. None) a clock len refl refl (λ j. sym (same j))
     (record { at = λ j. subst (λ (o : Option Life). PlaceAgrees (slice_get new.slots.items j) o) (same j) (table.at j) })
+
+-- the server after a restart, or after one that is refused
+pub agrees_restarted : {N : ℕ} (old new : ServerOf N) (h : server.History) (i next : ℕ) (result : Result Unit RestartError)
+    → Agrees old h → new.clock ≡ old.clock → length new.slots.items ≡ length old.slots.items
+    → TableAgrees new.slots.items (lives_after result i next (server.life h))
+    → Agrees new (server.Then h (server.Restart i next) (restarted_entry result))
+agrees_restarted old new h i next (Ok x) a clock len table =
+    record {
+      clock_is = clock ∙ a.clock_is;
+      contexts = len ∙ a.contexts;
+      places = table;
+      one_each = one_kept HaveSameLookup h (server.Then h (server.Restart i next) server.Restarted) (λ j. restarted_context (j == i) next (server.life h j)) a.one_each;
+    }
+agrees_restarted old new h i next (Err e) a clock len table =
+    record { clock_is = clock ∙ a.clock_is; contexts = len ∙ a.contexts; places = table; one_each = a.one_each }
+
+-- the server after a context took the place of another
+pub agrees_replaced : {N : ℕ} (old new : ServerOf N) (h : server.History) (i : ℕ) (by : SecurityContext) (start : Start) (size : WindowSize)
+    → Agrees old h → new.clock ≡ old.clock → length new.slots.items ≡ length old.slots.items → ReplaceAnswer (server.life h) i by server.Replaced
+    → TableAgrees new.slots.items (lives_with i by start size (server.life h)) → Agrees new (server.Then h (server.Replace i by start size) server.Replaced)
+agrees_replaced old new h i by start size a clock len row table =
+    record {
+      clock_is = clock ∙ a.clock_is;
+      contexts = len ∙ a.contexts;
+      places = table;
+      one_each = one_replaced HaveSameLookup lookup_turned h i by start size (λ j of other there same. row.1 (j, of, other, there, same)) a.one_each;
+    }

@@ -14,13 +14,13 @@ abbrev pub HasContextOf : Option Life → Life → Type 0
 HasContextOf o of = (l : Life) × (o ≡ Some l) × (l.context ≡ of.context)
 
 -- what leaves the context of each life leaves that of one that is there
-kept_context : (f : Life → Life) → ((l : Life) → (f l).context ≡ l.context) → (o : Option Life) (of : Life) → option_map f o ≡ Some of → HasContextOf o of
+pub kept_context : (f : Life → Life) → ((l : Life) → (f l).context ≡ l.context) → (o : Option Life) (of : Life) → option_map f o ≡ Some of → HasContextOf o of
 kept_context f same None of e = absurd (let e' : None ≡ Some of = e in cc)
 kept_context f same (Some l) of e =
     let is : f l ≡ of = ap (λ (x : Option Life). unwrap_or x of) e in
     (l, refl, sym (same l) ∙ ap (λ (x : Life). x.context) is)
 
-marked_context : (m : Option Mark) (l : Life) → (marked m l).context ≡ l.context
+pub marked_context : (m : Option Mark) (l : Life) → (marked m l).context ≡ l.context
 marked_context None l = refl
 marked_context (Some mark) l = refl
 

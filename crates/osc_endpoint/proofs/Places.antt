@@ -1,8 +1,8 @@
 -- A table whose places stand for lives.
 use Rattle.std.proofs.Common.{◌≡◌, ◌≢◌, ℕ, zero, suc, ◌<◌, ◌∙◌, sym, ap, subst, refl, arith, Bool, true, false, Option, Some, None, List, [], ◌∷◌, length, slice_set, if◌then◌else◌, inl, inr}
-use Rattle.std.specs.Prelude.{slice_get, ◌==◌}
+use Rattle.std.specs.Prelude.{slice_get, ◌==◌, cond}
 use Rattle.std.specs.Option.{option_map}
-use Rattle.std.proofs.lemmas.Bool.{ne_eqb, cases_eq}
+use Rattle.std.proofs.lemmas.Bool.{eq-eqb, ne_eqb, cases_eq}
 use Rattle.std.proofs.lemmas.Option.{slice_get_within}
 use Rattle.osc_context.specs.Views.{number_of}
 use Rattle.osc_life.specs.declared.decision.Decided.{Decided}
@@ -97,4 +97,23 @@ table_judges slots lives r d result new reply s t h e judges =
               (h.at i)
         ];
       };
+    }
+
+-- a place stands for another life, and the others for what they did
+pub table_changed : (slots : List (Option Slot)) (lives : ℕ → Option Life) (f : Life → Life) (n : ℕ) (s t : Option Slot) → TableAgrees slots lives → slice_get slots n ≡ Some s
+    → ((l : Life) → HoldsLife s l → HoldsLife t (f l)) → TableAgrees (slice_set slots n t) (λ i. if i == n then option_map f (lives i) else lives i)
+table_changed slots lives f n s t table there changes =
+    let (l, is, holds) = life_at slots lives n s table there in
+    record {
+      at = λ i. elim (cases_eq i n) [
+        | inl same ↦
+            place_from _ (Some t) _ (Some (f l))
+            (ap (slice_get (slice_set slots n t)) same ∙ slice_get-set_same slots n t (slice_get_within slots n s there))
+            (ap (λ b. cond b (option_map f (lives i)) (lives i)) (eq-eqb i n same) ∙ ap (λ x. option_map f (lives x)) same ∙ ap (option_map f) is)
+            (changes l holds)
+        | inr other ↦
+            place_from _ _ _ _ (slice_get-set_other slots n i t other)
+            (ap (λ b. cond b (option_map f (lives i)) (lives i)) (ne_eqb i n other))
+            (table.at i)
+      ];
     }

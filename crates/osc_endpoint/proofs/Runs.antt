@@ -5,7 +5,7 @@ use Rattle.std.specs.Option.{option_and_then, option_map}
 use Rattle.osc_context.specs.Views.{number_of}
 use Rattle.osc_context.specs.declared.partial_iv.Piv.{Piv}
 use Rattle.osc_life.specs.declared.ticket.Ticket.{Ticket}
-use Rattle.osc_endpoint.specs.declared.server.Server.{Server}
+use Rattle.osc_endpoint.specs.declared.server.ServerOf.{ServerOf}
 use Rattle.osc_endpoint.specs.declared.server_event.ServerEvent.{ServerEvent}
 use Rattle.osc_endpoint.specs.declared.server_event.ServerEvent.TheVariants as events
 use Rattle.osc_endpoint.specs.declared.server_event.ServerEntry.{ServerEntry}
@@ -73,7 +73,7 @@ run_more h mid g ts vs us (d ∷ ds) (y ∷ ys) e x r s = (r.0, r.1, r.2, run_mo
 
 -- ---- a reply by the run's own tickets
 
-pub no_ticket : (h : History) (s : Server) (ts after : List (Option Ticket)) (of : ℕ) → Agrees s h
+pub no_ticket : {N : ℕ} (h : History) (s : ServerOf N) (ts after : List (Option Ticket)) (of : ℕ) → Agrees s h
     → None ≡ option_and_then (λ t. t) (slice_get ts of) → after ≡ slice_set ts of None
     → (g : History) × ((ticket_at (values_in ts) of ≡ None) × (g ≡ h) × (values_in after ≡ values_in ts)) × Agrees s g
 no_ticket h s ts after of a none is = (h, (ticket_seen ts of ∙ ap (option_map values_of) (sym none), refl, ap values_in (is ∙ none_taken ts of none)), a)

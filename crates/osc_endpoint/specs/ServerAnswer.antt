@@ -2,21 +2,23 @@
 -- in the order in which they are checked; the condition of each row includes that no earlier row's condition holds. h is a history, d a
 -- datagram, i the index of a context, n the number of a request, `of` the present life of that context, m a message, clock the clock after
 -- the event's own moment, mid and echo the fresh values that were passed in.
-use Rattle.std.specs.Prelude.{◌≡◌, ◌≢◌, ℕ, ◌<◌, ◌≤◌, List, [], length, Bool, true, false, Some, max}
+use Rattle.std.specs.Prelude.{◌≡◌, ◌≢◌, ℕ, ◌<◌, ◌≤◌, List, [], length, Bool, true, false, Option, Some, max}
 use Rattle.osc_coap.specs.Datagram.{Parts}
 use Rattle.osc_coap.specs.Fault.{HasFault}
 use Rattle.osc_coap.specs.Inner.{InnerParts}
 use Rattle.osc_context.specs.SecurityContext.{SecurityContext}
+use Rattle.osc_context.specs.Senders.{HaveSameSender}
 use Rattle.osc_protect.specs.Head.{Head, HasRequestHead, HasNoRequestHead}
 use Rattle.osc_protect.specs.Protection.{ProtectsRequest, requests}
 use Rattle.osc_protect.specs.Refusals.{Names}
 use Rattle.osc_protect.specs.declared.head_error.HeadError.TheVariants as heads
 use Rattle.osc_life.specs.declared.server_error.AddError.TheVariants.{Full, SameLookup}
+use Rattle.osc_life.specs.declared.server_error.ReplaceError.TheVariants as replaces
 use Rattle.osc_life.specs.declared.server_error.ReplyError.TheVariants.{StaleTicket, NotObserving}
 use Rattle.osc_life.specs.Replies.{SaysError, as_reply, undecodable, no_context, replay, bad_tag}
 use Rattle.osc_life.specs.Life.{Life, Admits}
-use Rattle.osc_life.specs.ServerHistory.{History, Event, Entry, Answer, TicketValues, Add, Datagram, Reply, Notify, Restart, Skip, Advance, Malformed, NotRequest, Plain, Undecodable, NoContext, Replay, BadTag, Challenge, Added, NotAdded, Took, NotReplied, Advanced, clock, added, life}
-use Rattle.osc_life.specs.LifeAnswer.{Arrival, SaysChallenge, MeetsLifeRow, LifeReply, as_notification, LifeNotify, LifeRestart, LifeSkip}
+use Rattle.osc_life.specs.ServerHistory.{History, Event, Entry, Answer, TicketValues, Add, Datagram, Reply, Notify, Restart, Replace, Skip, Advance, Malformed, NotRequest, Plain, Undecodable, NoContext, Replay, BadTag, Challenge, Added, NotAdded, Took, NotReplied, Replaced, NotReplaced, Advanced, clock, added, life}
+use Rattle.osc_life.specs.LifeAnswer.{Arrival, SaysChallenge, MeetsLifeRow, LifeReply, as_notification, LifeNotify, LifeReplace, LifeRestart, LifeSkip}
 
 -- the context's identifiers are short enough for a nonce, and differ (RFC 8613, 3.3)
 pub record IsContext (s : SecurityContext) : Type 0 where
@@ -28,16 +30,39 @@ pub record IsContext (s : SecurityContext) : Type 0 where
 abbrev pub HaveSameLookup : SecurityContext → SecurityContext → Type 0
 HaveSameLookup s t = (s.client ≡ t.client) × (s.id_context ≡ t.id_context)
 
+-- requests for this context would also name one of these lives (RFC 8613, 3.3)
+abbrev pub IsTakenIn : (ℕ → Option Life) → SecurityContext → Type 0
+IsTakenIn lives s = (i : ℕ) × (of : Life) × (lives i ≡ Some of) × HaveSameLookup of.context s
+
 -- requests for this context would also name one that is there (RFC 8613, 3.3)
 abbrev pub IsTaken : History → SecurityContext → Type 0
-IsTaken h s = (i : ℕ) × (of : Life) × (life h i ≡ Some of) × HaveSameLookup of.context s
+IsTaken h s = IsTakenIn (life h) s
 
--- the answer to Add (own rule: eight contexts)
-abbrev pub AddAnswer : History → SecurityContext → Entry → Type 0
-AddAnswer h s (NotAdded Full) = 8 ≤ added h
-AddAnswer h s (NotAdded SameLookup) = (added h < 8) × IsTaken h s
-AddAnswer h s (Added index) = (added h < 8) × (IsTaken h s → ⊥) × (index ≡ added h)
-AddAnswer h s entry = ⊥
+-- the answer to Add, by a server with room for so many contexts (own rule: the room)
+abbrev pub AddAnswer : History → SecurityContext → ℕ → Entry → Type 0
+AddAnswer h s places (NotAdded Full) = places ≤ added h
+AddAnswer h s places (NotAdded SameLookup) = (added h < places) × IsTaken h s
+AddAnswer h s places (Added index) = (added h < places) × (IsTaken h s → ⊥) × (index ≡ added h)
+AddAnswer h s places entry = ⊥
+
+-- a context of these lives has the same Sender Key as this one (RFC 8613, 3.3)
+abbrev pub HasSenderIn : (ℕ → Option Life) → SecurityContext → Type 0
+HasSenderIn lives s = (i : ℕ) × (of : Life) × (lives i ≡ Some of) × HaveSameSender of.context s
+
+-- a context that is there has the same Sender Key as this one (RFC 8613, 3.3)
+abbrev pub HasSameSender : History → SecurityContext → Type 0
+HasSameSender h s = HasSenderIn (life h) s
+
+-- requests for this context would also name another one of these lives than context i (RFC 8613, 3.3)
+abbrev pub IsTakenBeside : (ℕ → Option Life) → ℕ → SecurityContext → Type 0
+IsTakenBeside lives i s = (j : ℕ) × (of : Life) × (j ≢ i) × (lives j ≡ Some of) × HaveSameLookup of.context s
+
+-- the answer to Replace, from the present lives of the contexts (RFC 8613, 3.3; own rule: the order)
+abbrev pub ReplaceAnswer : (ℕ → Option Life) → ℕ → SecurityContext → Entry → Type 0
+ReplaceAnswer lives i s (NotReplaced replaces.SameLookup) = LifeReplace (lives i) Replaced × IsTakenBeside lives i s
+ReplaceAnswer lives i s (NotReplaced replaces.SameSender) = LifeReplace (lives i) Replaced × (IsTakenBeside lives i s → ⊥) × HasSenderIn lives s
+ReplaceAnswer lives i s Replaced = LifeReplace (lives i) Replaced × (IsTakenBeside lives i s → ⊥) × (HasSenderIn lives s → ⊥)
+ReplaceAnswer lives i s entry = LifeReplace (lives i) entry
 
 -- the datagram's head names this context, which is there, and this number (RFC 8613, 8.2)
 pub record IsRequestOf (h : History) (d : List ℕ) (i n : ℕ) (of : Life) : Type 0 where
@@ -102,11 +127,12 @@ NotifyAnswer h t p room entry = (t.observes ≡ true) × OfTicket h t (λ of. Li
 
 -- the entry is the server's answer to the event after this history (RFC 8613, 8.2 and 8.3)
 abbrev pub ServerAnswer : History → Event → Entry → Type 0
-ServerAnswer h (Add s start size) entry = IsContext s × AddAnswer h s entry
+ServerAnswer h (Add s start size places) entry = IsContext s × AddAnswer h s places entry
 ServerAnswer h (Datagram now echo mid d) (Took answer reply) = TakeAnswer h (arrival h now echo mid d) answer reply
 ServerAnswer h (Reply t own mid plain room) entry = ReplyAnswer h t own (as_reply t.kind t.message_id t.token mid plain) room entry
 ServerAnswer h (Notify t plain room) entry = NotifyAnswer h t (as_notification t.token plain) room entry
 ServerAnswer h (Restart i next) entry = LifeRestart (life h i) entry
+ServerAnswer h (Replace i by start size) entry = IsContext by × ReplaceAnswer (life h) i by entry
 ServerAnswer h (Skip i count) entry = LifeSkip (life h i) count entry
 ServerAnswer h (Advance now) Advanced = Unit {0}
 ServerAnswer h event entry = ⊥

@@ -16,9 +16,11 @@ use arrayvec::ArrayVec;
 use osc_life::Decided;
 use osc_life::siblings::{Named, Slot};
 
-/// A table of contexts, wherever it lies. Only clauses read its places and the context at each place, and whether its bytes are such a
-/// table at all.
+/// A table of contexts, wherever it lies. Only clauses read how many it has room for, its places and the context at each place, and whether
+/// its bytes are such a table at all.
 pub trait Contexts {
+    ghost places: { ℕ };
+
     ghost is_table: { Self → Type 0 };
 
     ghost holds: { Self → List (Option Slot) → Type 0 };
@@ -48,7 +50,9 @@ pub trait Contexts {
     ghost held: { (t : Self) (slots : List (Option Slot)) (i : ℕ) → holds t slots → context_at t i ≡ context_in slots i };
 }
 
-impl Contexts for ArrayVec<Option<Slot>, 8> {
+impl<const N: usize> Contexts for ArrayVec<Option<Slot>, N> {
+    ghost places = { N };
+
     ghost is_table = { λ _. Unit {0} };
 
     ghost holds = { λ table slots. table.items ≡ slots };

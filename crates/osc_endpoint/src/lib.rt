@@ -8,6 +8,7 @@ mod contexts;
 mod server;
 mod server_event;
 mod server_notify;
+mod server_replace;
 mod server_reply;
 mod server_restart;
 mod server_run;
@@ -19,12 +20,12 @@ mod table;
 pub use add_refusal::AddRefusal;
 pub use client_event::{ClientEntry, ClientEvent};
 pub use client_run::{run_client, run_client_on};
-pub use osc_client::{Client, ClientDecision, ClientOutcome, RequestError, TooFewLeft};
+pub use osc_client::{Client, ClientDecision, ClientOutcome, RequestError, SameSender, TooFewLeft};
 pub use osc_life::{
-    AddError, Decided, Decision, Fresh, Outcome, ReplyError, RestartError, Seen, SkipError, Start,
-    Taken, Ticket,
+    AddError, Decided, Decision, Fresh, Outcome, ReplaceError, ReplyError, RestartError, Seen,
+    SkipError, Start, Taken, Ticket,
 };
-pub use server::Server;
+pub use server::{Server, ServerOf};
 pub use server_event::{Answering, Arrival, Notifying, SealedResponse, ServerEntry, ServerEvent};
 pub use server_run::{run_server, run_server_on};
 

@@ -4,7 +4,7 @@ ghost use Rattle.std.specs.Prelude.{◌≡◌, ◌<◌, Err, true, false, IfOk, 
 ghost use Rattle.osc_context.specs.Views.{as_server};
 
 use crate::add_refusal::AddRefusal;
-use crate::table::{find, has_sender_at, is_open_at, next_at};
+use crate::table::{find_same, has_sender_at, is_open_at, next_at};
 use arrayvec::ArrayVec;
 use osc_context::Context;
 use osc_life::siblings::Slot;
@@ -12,18 +12,21 @@ use osc_life::{AddError, Start};
 use osc_protect::KeyedContext;
 use osc_window::WindowSize;
 
-/// A server of up to eight contexts. It has no socket, no clock and no random source: you pass in datagrams, timestamps in milliseconds and
+/// A server with room for N contexts. It has no socket, no clock and no random source: you pass in datagrams, timestamps in milliseconds and
 /// fresh values.
 #[derive(Drop)]
-pub struct Server {
+pub struct ServerOf<const N: usize> {
     pub(crate) clock: u64,
-    pub(crate) slots: ArrayVec<Option<Slot>, 8>,
+    pub(crate) slots: ArrayVec<Option<Slot>, N>,
 }
 
-impl Server {
+/// A server with room for eight contexts.
+pub type Server = ServerOf<8>;
+
+impl<const N: usize> ServerOf<N> {
     ghost use Rattle.osc_endpoint.specs.Agrees.{Agrees};
-    ghost use Rattle.osc_endpoint.specs.Senders.{HasSameSender, IsSameSender};
-    ghost use Rattle.osc_endpoint.specs.ServerAnswer.{IsTaken, ServerAnswer};
+    ghost use Rattle.osc_endpoint.specs.Senders.{IsSameSender};
+    ghost use Rattle.osc_endpoint.specs.ServerAnswer.{HasSameSender, IsTaken, ServerAnswer};
     ghost use Rattle.osc_life.specs.ServerHistory.{History, Begin, Then, Add, Advance, Advanced, added, life};
     ghost use Rattle.std.specs.Option.{option_map};
     ghost use Rattle.osc_life.specs.Life.{is_open_life, next_own};
@@ -32,10 +35,10 @@ impl Server {
 
     /// Makes a server with no context.
     #[must_use]
-    pub fn new() -> Server
+    pub fn new() -> ServerOf<N>
         ensures { Agrees result Begin }
     {
-        Server {
+        ServerOf {
             clock: 0,
             slots: ArrayVec::new(),
         }
@@ -50,18 +53,17 @@ impl Server {
         size: WindowSize,
     ) -> Result<usize, AddError>
         ensures answered { (h : History) → Agrees self.old h
-            → ServerAnswer h (Add (as_server context) start size) (added_entry result) }
+            → ServerAnswer h (Add (as_server context) start size N) (added_entry result) }
         ensures follows { (h : History) → Agrees self.old h
-            → Agrees self.new (Then h (Add (as_server context) start size) (added_entry result)) }
+            → Agrees self.new (Then h (Add (as_server context) start size N) (added_entry result)) }
         ensures unchanged { OnErr result (self.new ≡ self.old) }
     {
-        let _sender = context.sender().bytes();
-        let recipient = context.recipient().bytes();
+        // For the proof alone.
+        let (_sender, _recipient) = (context.sender().bytes(), context.recipient().bytes());
         if self.slots.is_full() {
             return Err(AddError::Full);
         }
-        let id_context = context.id_context().map(|id_context| id_context.bytes());
-        if find(self.slots.as_slice(), recipient, id_context).is_some() {
+        if find_same(self.slots.as_slice(), &context).is_some() {
             return Err(AddError::SameLookup);
         }
         let index = self.slots.len();
@@ -72,13 +74,10 @@ impl Server {
 
     /// Returns whether `add` would add a context.
     fn would_add(&self, context: &Context) -> bool
-        ensures yes { result ≡ true → (h : History) → Agrees self.now h → (added h < 8) × (IsTaken h (as_server context.now) → ⊥) }
-        ensures no { result ≡ false → (h : History) → Agrees self.now h → added h < 8 → (IsTaken h (as_server context.now) → ⊥) → ⊥ }
+        ensures yes { result ≡ true → (h : History) → Agrees self.now h → (added h < N) × (IsTaken h (as_server context.now) → ⊥) }
+        ensures no { result ≡ false → (h : History) → Agrees self.now h → added h < N → (IsTaken h (as_server context.now) → ⊥) → ⊥ }
     {
-        let _sender = context.sender().bytes();
-        let recipient = context.recipient().bytes();
-        let id_context = context.id_context().map(|id_context| id_context.bytes());
-        !self.slots.is_full() && find(self.slots.as_slice(), recipient, id_context).is_none()
+        !self.slots.is_full() && find_same(self.slots.as_slice(), context).is_none()
     }
 
     /// Adds a context as `add` does, but none that has the Sender Key of a context that is there. Each of the two would count its own Sender
@@ -92,9 +91,9 @@ impl Server {
         size: WindowSize,
     ) -> Result<usize, AddRefusal>
         ensures answered { IfSome (entry_of_add result) (λ entry. (h : History) → Agrees self.old h
-            → ServerAnswer h (Add (as_server context) start size) entry × Agrees self.new (Then h (Add (as_server context) start size) entry)) }
+            → ServerAnswer h (Add (as_server context) start size N) entry × Agrees self.new (Then h (Add (as_server context) start size N) entry)) }
         ensures distinct { IfOk result (λ index. (h : History) → Agrees self.old h → HasSameSender h (as_server context) → ⊥) }
-        ensures same_sender { result ≡ Err SameSender → (h : History) → Agrees self.old h → IsSameSender h (as_server context) }
+        ensures same_sender { result ≡ Err SameSender → (h : History) → Agrees self.old h → IsSameSender h (as_server context) N }
         ensures unchanged { OnErr result (self.new ≡ self.old) }
     {
         let shares = has_sender_at(self.slots.as_slice(), &context);

@@ -3,12 +3,12 @@
 ghost use Rattle.std.specs.Prelude.{◌≡◌, ◌≢◌, ◌≤◌, IfOk, IfErr, OnErr, length, drop};
 ghost use Rattle.osc_coap.specs.Views.{parts_of};
 
-use crate::server::Server;
+use crate::server::ServerOf;
 use crate::table::reply_at;
 use osc_coap::Message;
 use osc_life::{ReplyError, Ticket};
 
-impl Server {
+impl<const N: usize> ServerOf<N> {
     ghost use Rattle.osc_endpoint.specs.Agrees.{Agrees};
     ghost use Rattle.osc_endpoint.specs.ServerAnswer.{ServerAnswer};
     ghost use Rattle.osc_life.specs.LifeAnswer.{asks_own};

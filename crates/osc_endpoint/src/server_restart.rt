@@ -9,7 +9,7 @@ ghost use Rattle.osc_life.specs.LifeAnswer.{LifeRestart};
 ghost use Rattle.osc_life.specs.Views.{restarted_entry};
 ghost use Rattle.osc_life.specs.declared.server_error.RestartError.TheVariants.{NoSuchContext};
 
-use crate::server::Server;
+use crate::server::ServerOf;
 use osc_context::Piv;
 use osc_life::RestartError;
 use osc_life::siblings::{Slot, restart_place};
@@ -28,7 +28,7 @@ fn restart_at(slots: &mut [Option<Slot>], context: usize, next: Piv) -> Result<(
     restart_place(&mut slots[context], next)
 }
 
-impl Server {
+impl<const N: usize> ServerOf<N> {
     ghost use Rattle.osc_endpoint.specs.Agrees.{Agrees};
     ghost use Rattle.osc_endpoint.specs.ServerAnswer.{ServerAnswer};
     ghost use Rattle.osc_life.specs.ServerHistory.{History, Then, Restart};

@@ -10,7 +10,7 @@ ghost use Rattle.osc_endpoint.specs.ServerRun.{DropStep, NotifyStep, ReplyStep, 
 ghost use Rattle.osc_endpoint.specs.Serving.{Serves};
 ghost use Rattle.osc_life.specs.Views.{values_of};
 
-use crate::server::Server;
+use crate::server::ServerOf;
 use crate::server_event::{
     Answering, Arrival, Notifying, SealedResponse, ServerEntry, ServerEvent,
 };
@@ -22,8 +22,8 @@ use std::alloc::{AllocError, Global};
 use std::mem;
 
 /// Runs a datagram, whose entry borrows from it.
-fn serve_datagram<'a>(
-    server: &mut Server,
+fn serve_datagram<'a, const N: usize>(
+    server: &mut ServerOf<N>,
     arrival: &'a mut Arrival,
 ) -> (ServerEntry<'a>, Option<Ticket>)
     ensures { (h : History) (ts : List (Option TicketValues)) → Agrees server.old h
@@ -58,8 +58,8 @@ pub fn sealed_number(own: bool, next: Option<u64>) -> Option<Piv>
 }
 
 /// Runs a reply by the ticket at an index. The entry borrows from the room for the reply.
-fn serve_reply<'a>(
-    server: &mut Server,
+fn serve_reply<'a, const N: usize>(
+    server: &mut ServerOf<N>,
     tickets: &mut [Option<Ticket>],
     of: usize,
     own: bool,
@@ -95,8 +95,8 @@ fn serve_reply<'a>(
 }
 
 /// Runs a reply, whose entry borrows from the room for it.
-fn serve_answering<'a>(
-    server: &mut Server,
+fn serve_answering<'a, const N: usize>(
+    server: &mut ServerOf<N>,
     answering: &'a mut Answering,
     tickets: &mut [Option<Ticket>],
 ) -> ServerEntry<'a>
@@ -115,8 +115,8 @@ fn serve_answering<'a>(
 }
 
 /// Runs a notification by the ticket at an index, which stays there. The entry borrows from the room for the notification.
-fn serve_notify<'a>(
-    server: &mut Server,
+fn serve_notify<'a, const N: usize>(
+    server: &mut ServerOf<N>,
     tickets: &[Option<Ticket>],
     of: usize,
     plain: &[u8],
@@ -143,8 +143,8 @@ fn serve_notify<'a>(
 }
 
 /// Runs a notification, whose entry borrows from the room for it.
-fn serve_notifying<'a>(
-    server: &mut Server,
+fn serve_notifying<'a, const N: usize>(
+    server: &mut ServerOf<N>,
     notifying: &'a mut Notifying,
     tickets: &[Option<Ticket>],
 ) -> ServerEntry<'a>
@@ -164,7 +164,11 @@ fn drop_ticket<'a>(tickets: &mut [Option<Ticket>], of: usize) -> ServerEntry<'a>
 }
 
 /// Runs a restart, whose entry borrows nothing.
-fn serve_restart<'a>(server: &mut Server, context: usize, next: Piv) -> ServerEntry<'a>
+fn serve_restart<'a, const N: usize>(
+    server: &mut ServerOf<N>,
+    context: usize,
+    next: Piv,
+) -> ServerEntry<'a>
     ensures { (h : History) (ts : List (Option TicketValues)) → Agrees server.old h
         → (g : History) × Serves h ts (ServerEvent.Restart context next) result None g ts × Agrees server.new g }
 {
@@ -173,8 +177,8 @@ fn serve_restart<'a>(server: &mut Server, context: usize, next: Piv) -> ServerEn
 
 /// Runs one event, whose entry borrows from it. Returns the entry, and the ticket that a delivery gives. `tickets` has a place for each event
 /// before, with the ticket that is left of it.
-pub fn serve_event<'a>(
-    server: &mut Server,
+pub fn serve_event<'a, const N: usize>(
+    server: &mut ServerOf<N>,
     event: &'a mut ServerEvent,
     tickets: &mut [Option<Ticket>],
 ) -> (ServerEntry<'a>, Option<Ticket>)
@@ -194,9 +198,9 @@ pub fn serve_event<'a>(
 /// Runs a server over events. The log gets the entry of each event, at the event's index. The entries borrow from the events. The run stops
 /// early only if memory for an entry is refused. In that case the log has the entries of the events before, and `events` is what is left of
 /// them, as it was passed in.
-pub fn run_server_on<'a>(
+pub fn run_server_on<'a, const N: usize>(
     alloc: Global,
-    server: &mut Server,
+    server: &mut ServerOf<N>,
     events: &mut &'a mut [ServerEvent],
     log: &mut Vec<ServerEntry<'a>>,
 ) -> Result<(), AllocError>
@@ -227,9 +231,9 @@ pub fn run_server_on<'a>(
 }
 
 /// Runs a server over events, as [`run_server_on`] does. It doesn't return what is left of them.
-pub fn run_server<'a>(
+pub fn run_server<'a, const N: usize>(
     alloc: Global,
-    server: &mut Server,
+    server: &mut ServerOf<N>,
     events: &'a mut [ServerEvent],
     log: &mut Vec<ServerEntry<'a>>,
 ) -> Result<(), AllocError>

@@ -9,7 +9,7 @@ ghost use Rattle.osc_life.specs.LifeAnswer.{LifeSkip};
 ghost use Rattle.osc_life.specs.Views.{skipped_entry};
 ghost use Rattle.osc_life.specs.declared.server_error.SkipError.TheVariants.{NoSuchContext};
 
-use crate::server::Server;
+use crate::server::ServerOf;
 use osc_life::SkipError;
 use osc_life::siblings::{Slot, skip_place};
 
@@ -27,7 +27,7 @@ fn skip_at(slots: &mut [Option<Slot>], context: usize, count: u64) -> Result<(),
     skip_place(&mut slots[context], count)
 }
 
-impl Server {
+impl<const N: usize> ServerOf<N> {
     ghost use Rattle.osc_endpoint.specs.Agrees.{Agrees};
     ghost use Rattle.osc_endpoint.specs.ServerAnswer.{ServerAnswer};
     ghost use Rattle.osc_life.specs.ServerHistory.{History, Then, Skip};

@@ -11,7 +11,7 @@ ghost use Rattle.osc_endpoint.specs.Agrees.{Agrees, server_of};
 ghost use Rattle.osc_life.specs.ServerHistory.{History};
 
 use crate::contexts::Contexts;
-use crate::server::Server;
+use crate::server::ServerOf;
 use osc_coap::parse;
 use osc_life::siblings::{Asker, ErrorReply, Named, write_error};
 use osc_life::{Decided, Decision, Fresh, Taken};
@@ -50,9 +50,9 @@ pub fn decide_over<T: Contexts>(
     out: &mut [u8; 64],
 ) -> Decided
     requires { T.is_table contexts.old }
-    ensures answered { (h : History) (slots : List (Option Slot)) → T.holds contexts.old slots → Agrees (server_of clock.old slots) h
+    ensures answered { (h : History) (slots : List (Option Slot)) → T.holds contexts.old slots → Agrees (server_of T.places clock.old slots) h
         → (new : List (Option Slot)) × T.holds contexts.new new
-        × DecidesTo h now fresh datagram.old result datagram.new (take result.reply out.new) (server_of clock.new new) }
+        × DecidesTo h now fresh datagram.old result datagram.new (take result.reply out.new) (server_of T.places clock.new new) }
     ensures table { T.is_table contexts.new }
     ensures shown { CanShow result.decision datagram.new }
     ensures left { (slots : List (Option Slot)) → T.holds contexts.old slots → Leaves slots result.decision datagram.old datagram.new }
@@ -94,7 +94,7 @@ pub fn decide_over<T: Contexts>(
     contexts.judge_at(request, datagram, out)
 }
 
-impl Server {
+impl<const N: usize> ServerOf<N> {
     ghost use Rattle.osc_endpoint.specs.Agrees.{Agrees};
     ghost use Rattle.osc_life.specs.ServerHistory.{History};
     ghost use Rattle.osc_endpoint.specs.Deciding.{DecidesTo, LeavesBy, Takes};

@@ -7,7 +7,7 @@ ghost use Rattle.osc_endpoint.specs.Restarting.{delivery_mark_at};
 ghost use Rattle.osc_life.specs.Agrees.{GateAgrees, HasGate};
 ghost use Rattle.osc_life.specs.Life.{Life, marked};
 
-use crate::server::Server;
+use crate::server::ServerOf;
 use osc_life::siblings::{Slot, gate_of_place, take_back_place};
 use osc_window::Gate;
 
@@ -32,7 +32,7 @@ fn take_back_at(slots: &mut [Option<Slot>], context: usize, gate: Gate)
     }
 }
 
-impl Server {
+impl<const N: usize> ServerOf<N> {
     ghost use Rattle.osc_endpoint.specs.Agrees.{Agrees, OneEach};
     ghost use Rattle.osc_life.specs.ServerHistory.{History, Then, Advance, Advanced, Datagram, Deliver, TicketValues, Took, life};
     ghost use Rattle.osc_observe.specs.Received.{Received};

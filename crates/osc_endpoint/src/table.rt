@@ -12,6 +12,7 @@ ghost use Rattle.osc_coap.specs.Views.{parts_of};
 ghost use Rattle.osc_life.specs.Life.{Life, is_open_life, marked, next_own};
 ghost use Rattle.osc_life.specs.Replies.{as_reply};
 ghost use Rattle.osc_endpoint.specs.Replying.{TableNotify, TableReply, marks_at};
+ghost use Rattle.osc_endpoint.specs.ServerAnswer.{HaveSameLookup, IsTakenIn};
 ghost use Rattle.osc_life.specs.Views.{reply_entry, values_of};
 ghost use Rattle.osc_life.specs.LifeAnswer.{as_notification};
 ghost use Rattle.osc_endpoint.specs.Table.{TableJudges};
@@ -39,6 +40,17 @@ pub(crate) fn find(slots: &[Option<Slot>], kid: &[u8], kid_context: Option<&[u8]
         }
     }
     None
+}
+
+/// Returns the index of the context that requests for this one would name, if one is there (RFC 8613, 3.3).
+pub(crate) fn find_same(slots: &[Option<Slot>], context: &Context) -> Option<usize>
+    ensures found { IfSome result (λ i. (lives : ℕ → Option Life) → TableAgrees slots.now lives
+        → (of : Life) × (lives i ≡ Some of) × HaveSameLookup of.context (as_server context.now)) }
+    ensures none { IfNone result ((lives : ℕ → Option Life) → TableAgrees slots.now lives → IsTakenIn lives (as_server context.now) → ⊥) }
+{
+    let recipient = context.recipient().bytes();
+    let id_context = context.id_context().map(|id_context| id_context.bytes());
+    find(slots, recipient, id_context)
 }
 
 /// Processes a request that names the context at its index.

@@ -21,7 +21,7 @@ pub fn server_over<K: Keeper + Drop>(
     keeper: K,
 ) -> Result<KeptServer<K>, (KeptError, K)>
     ensures begins { IfOk result (λ s. (start : Start) × IsKept s.server (upcoming (own_in s.source))
-        (Then Begin (Add (as_server context) start Places64) (Added 0))) }
+        (Then Begin (Add (as_server context) start Places64 1) (Added 0))) }
     ensures refused { IfErr result (λ e. RefusesAt K.loads K.failures keeper e.0 e.1) }
 {
     KeptServer::start(context, keeper, WindowSize::Places64)

@@ -53,7 +53,7 @@ serves_with k o h serves bytes one next numbers top =
 
 -- ---- datagrams
 
-kept_by : (k : KeptServerHandle) (o : Own) (h : History) (w : ServesWith k o h) → IsKept (server_of k.server.clock w.serves.slots) (upcoming o) h
+kept_by : (k : KeptServerHandle) (o : Own) (h : History) (w : ServesWith k o h) → IsKept (server_of 1 k.server.clock w.serves.slots) (upcoming o) h
 kept_by k o h w = record { agrees = w.serves.agrees; one = w.one; next_is = w.next_is }
 
 challenge_or_not : (answer : Answer) → IsChallenge answer ⊎ IsNoChallenge answer
@@ -76,8 +76,8 @@ pub took : (k t : KeptServerHandle) (h : History) (now : ℕ) (echo : List ℕ) 
 took k t h now echo m d answer reply old w wants row serves table same =
     let (mid, drawn, numbers) = drawn_by (not (is_open_life (life h 0))) old k.reserved w.numbers w.whole.reserved wants in
     let top : t.reserved ≤ 2 ^ 40 = let was : k.reserved ≤ 2 ^ 40 = w.whole.reserved in omega (arith, same, was) in
-    let s = server_of k.server.clock w.serves.slots in
-    let x = server_of t.server.clock serves.slots in
+    let s = server_of 1 k.server.clock w.serves.slots in
+    let x = server_of 1 t.server.clock serves.slots in
     elim (challenge_or_not answer) [
       | inl is ↦
           let new = after (Use (upcoming old)) mid in
@@ -106,8 +106,8 @@ pub not_replied : (k t : KeptServerHandle) (h : History) (v : TicketValues) (own
 not_replied k t h v own m p room e old w wants (row, serves) table same =
     let (mid, drawn, numbers) = drawn_by own old k.reserved w.numbers w.whole.reserved wants in
     let top : t.reserved ≤ 2 ^ 40 = let was : k.reserved ≤ 2 ^ 40 = w.whole.reserved in omega (arith, same, was) in
-    let s = server_of k.server.clock w.serves.slots in
-    let x = server_of t.server.clock serves.slots in
+    let s = server_of 1 k.server.clock w.serves.slots in
+    let x = server_of 1 t.server.clock serves.slots in
     let step = reply_refused s x h v own m p room e old mid (kept_by k old h w) row serves.agrees drawn in
     record {
       row = row;
@@ -121,8 +121,8 @@ pub replied : (k t : KeptServerHandle) (h : History) (v : TicketValues) (own : B
     → t.reserved ≡ k.reserved → StepsServer h (Reply v own m p room) (Replied bytes) old t
 replied k t h v false m p room bytes old w wants (row, serves) table same =
     let top : t.reserved ≤ 2 ^ 40 = let was : k.reserved ≤ 2 ^ 40 = w.whole.reserved in omega (arith, same, was) in
-    let s = server_of k.server.clock w.serves.slots in
-    let x = server_of t.server.clock serves.slots in
+    let s = server_of 1 k.server.clock w.serves.slots in
+    let x = server_of 1 t.server.clock serves.slots in
     let step = reply_shared s x h v m p room bytes old (kept_by k old h w) row serves.agrees in
     record {
       row = row;
@@ -133,8 +133,8 @@ replied k t h v false m p room bytes old w wants (row, serves) table same =
 replied k t h v true m p room bytes old w wants (row, serves) table same =
     let (mid, drawn, numbers) = drawn_by true old k.reserved w.numbers w.whole.reserved wants in
     let top : t.reserved ≤ 2 ^ 40 = let was : k.reserved ≤ 2 ^ 40 = w.whole.reserved in omega (arith, same, was) in
-    let s = server_of k.server.clock w.serves.slots in
-    let x = server_of t.server.clock serves.slots in
+    let s = server_of 1 k.server.clock w.serves.slots in
+    let x = server_of 1 t.server.clock serves.slots in
     let new = after (Use (upcoming old)) mid in
     let step = reply_own s x h v m p room bytes old mid new (kept_by k old h w) row serves.agrees drawn numbers.last (λ n. refl) in
     record {
@@ -152,8 +152,8 @@ pub not_notified : (k t : KeptServerHandle) (h : History) (v : TicketValues) (p 
 not_notified k t h v p room e old w wants (row, serves) table same =
     let (mid, drawn, numbers) = drawn_by true old k.reserved w.numbers w.whole.reserved wants in
     let top : t.reserved ≤ 2 ^ 40 = let was : k.reserved ≤ 2 ^ 40 = w.whole.reserved in omega (arith, same, was) in
-    let s = server_of k.server.clock w.serves.slots in
-    let x = server_of t.server.clock serves.slots in
+    let s = server_of 1 k.server.clock w.serves.slots in
+    let x = server_of 1 t.server.clock serves.slots in
     let step = notify_refused s x h v p room e old mid (kept_by k old h w) row serves.agrees drawn in
     record {
       row = row;
@@ -168,8 +168,8 @@ pub notified : (k t : KeptServerHandle) (h : History) (v : TicketValues) (p : Pa
 notified k t h v p room bytes old w wants (row, serves) table same =
     let (mid, drawn, numbers) = drawn_by true old k.reserved w.numbers w.whole.reserved wants in
     let top : t.reserved ≤ 2 ^ 40 = let was : k.reserved ≤ 2 ^ 40 = w.whole.reserved in omega (arith, same, was) in
-    let s = server_of k.server.clock w.serves.slots in
-    let x = server_of t.server.clock serves.slots in
+    let s = server_of 1 k.server.clock w.serves.slots in
+    let x = server_of 1 t.server.clock serves.slots in
     let new = after (Use (upcoming old)) mid in
     let step = notify_own s x h v p room bytes old mid new (kept_by k old h w) row serves.agrees drawn numbers.last (λ n. refl) in
     record {

@@ -68,17 +68,17 @@ pub serves_begun : (context : ContextHandle) (start : Start) (size : WindowSize)
 serves_begun context start size b u slot bytes is begins bare low =
     let c = server_in context in
     let free : IsTaken server.Begin c → ⊥ = λ x. none-some x.1 x.2 in
-    let row : ServerAnswer server.Begin (server.Add c start size) (server.Added 0) = (usable context bytes, (omega arith, free, refl)) in
-    let none : Agrees (server_of 0 []) server.Begin = record { clock_is = refl; contexts = refl; places = record { at = λ i. tt }; one_each = contexts_differ server.Begin tt } in (
+    let row : ServerAnswer server.Begin (server.Add c start size 1) (server.Added 0) = (usable context bytes, (omega arith, free, refl)) in
+    let none : Agrees (server_of 1 0 []) server.Begin = record { clock_is = refl; contexts = refl; places = record { at = λ i. tt }; one_each = contexts_differ server.Begin tt } in (
       row,
       record {
         slots = Some slot ∷ [];
         table = alone b slot is;
-        agrees = agrees_added (server_of 0 []) (server_of 0 (Some slot ∷ [])) server.Begin c start size slot 0 none free refl refl refl begins;
+        agrees = agrees_added (server_of 1 0 []) (server_of 1 0 (Some slot ∷ [])) server.Begin c start size 1 slot 0 none free refl refl refl begins;
         remembers = remembers_begun u c start size bare low;
         answers = (tt, row);
         due = tt;
-        senders = (tt, λ same. none-some same.1 same.2);
+        senders = (tt, λ same. none-some same.1 same.2, λ had. had.2);
       },
     )
 
@@ -137,8 +137,8 @@ serves_same s contexts h same serves =
 -- ---- a datagram
 
 pub serves_took : (s t : ServerParts) (h : server.History) (now : ℕ) (fresh : Fresh) (d new reply : List ℕ) (decided : Decided) (clock : ℕ) (contexts : List SlotHandle) → Serves s h
-    → ((g : server.History) (slots : List (Option Slot)) → IsTableIn s.contexts slots → Agrees (server_of s.clock slots) g
-    → (after : List (Option Slot)) × IsTableIn contexts after × DecidesTo g now fresh d decided new reply (server_of clock after))
+    → ((g : server.History) (slots : List (Option Slot)) → IsTableIn s.contexts slots → Agrees (server_of 1 s.clock slots) g
+    → (after : List (Option Slot)) × IsTableIn contexts after × DecidesTo g now fresh d decided new reply (server_of 1 clock after))
     → t.clock ≡ clock → t.contexts ≡ contexts → Notes s.unanswered t.unanswered decided.decision → DecidesIn h now fresh d decided.decision new reply t
 serves_took s t h now fresh d new reply decided clock contexts serves decides clock_is contexts_are notes =
     let (after, table, to) = decides h serves.slots serves.table serves.agrees in
@@ -149,7 +149,7 @@ serves_took s t h now fresh d new reply decided clock contexts serves decides cl
       serves = record {
         slots = after;
         table = subst (λ (x : List SlotHandle). IsTableIn x after) (sym contexts_are) table;
-        agrees = subst (λ n. Agrees (server_of n after) (server.Then h (server.Datagram now fresh.echo fresh.mid d) (server.Took to.answer reply))) (sym clock_is) to.agrees;
+        agrees = subst (λ n. Agrees (server_of 1 n after) (server.Then h (server.Datagram now fresh.echo fresh.mid d) (server.Took to.answer reply))) (sym clock_is) to.agrees;
         remembers = remembers_took s.unanswered t.unanswered h now fresh.mid fresh.echo d new decided.decision to.answer reply to.row to.decides notes serves.remembers;
         answers = (serves.answers, to.row);
         due = serves.due;
@@ -277,7 +277,7 @@ serves_replied s t h ticket own mid room plain bytes of u v n serves present the
       record {
         slots = changes.new;
         table = changes.table;
-        agrees = agrees_replied (server_of s.clock serves.slots) (server_of t.clock changes.new) h ticket own mid room plain bytes serves.agrees clock changes.len agrees;
+        agrees = agrees_replied (server_of 1 s.clock serves.slots) (server_of 1 t.clock changes.new) h ticket own mid room plain bytes serves.agrees clock changes.len agrees;
         remembers = subst (λ us. Remembers us g) (sym numbers) (remembers_replied s.unanswered h ticket own mid room plain bytes u v of there present.0 present.1 removes low serves.remembers);
         answers = (serves.answers, row);
         due = (serves.due, due);
@@ -335,7 +335,7 @@ serves_notified s contexts h t room plain out (Ok n) of serves present so notifi
       record {
         slots = changes.new;
         table = changes.table;
-        agrees = agrees_notified (server_of s.clock serves.slots) (server_of s.clock changes.new) h t room plain (Ok n) out serves.agrees refl changes.len agrees;
+        agrees = agrees_notified (server_of 1 s.clock serves.slots) (server_of 1 s.clock changes.new) h t room plain (Ok n) out serves.agrees refl changes.len agrees;
         remembers = remembers_notified s.unanswered h t room plain bytes serves.remembers;
         answers = (serves.answers, row);
         due = serves.due;

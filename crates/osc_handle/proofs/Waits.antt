@@ -226,10 +226,10 @@ bare_life u l none low = record { held = none; far = λ n. ap (nat_le (n + 64)) 
 
 -- the numbers of the one context, once it is added
 pub remembers_begun : (u : UnansweredHandle) (context : SecurityContext) (start : Start) (size : WindowSize) → ((n : ℕ) → holds u n ≡ false) → u.highest ≡ 0
-    → Remembers (u ∷ []) (server.Then server.Begin (server.Add context start size) (server.Added 0))
+    → Remembers (u ∷ []) (server.Then server.Begin (server.Add context start size 1) (server.Added 0))
 remembers_begun u context start size none low = record { at = at } where
   at : (i : ℕ) (v : UnansweredHandle) → slice_get (u ∷ []) i ≡ Some v
-      → RemembersAt v (server.life (server.Then server.Begin (server.Add context start size) (server.Added 0)) i) (waits (server.Then server.Begin (server.Add context start size) (server.Added 0)) i) (lies_far_back (server.Then server.Begin (server.Add context start size) (server.Added 0)) i)
+      → RemembersAt v (server.life (server.Then server.Begin (server.Add context start size 1) (server.Added 0)) i) (waits (server.Then server.Begin (server.Add context start size 1) (server.Added 0)) i) (lies_far_back (server.Then server.Begin (server.Add context start size 1) (server.Added 0)) i)
   at zero v e = subst (λ (x : UnansweredHandle). RemembersLife x (born context start size) (λ n. false) (λ n. false)) (same_Some u v e) (bare_life u (born context start size) none low)
   at (suc i) v e = absurd (none-some v e)
 

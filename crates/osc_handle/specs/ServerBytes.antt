@@ -43,7 +43,7 @@ pub record Remembers (us : List UnansweredHandle) (h : History) : Type 0 where
 pub record Serves (s : ServerParts) (h : History) : Type 0 where
   pub slots : List (Option Slot)
   pub table : IsTableIn s.contexts slots
-  pub agrees : Agrees (server_of s.clock slots) h
+  pub agrees : Agrees (server_of 1 s.clock slots) h
   pub remembers : Remembers s.unanswered h
   pub answers : AllAnswers h
   pub due : AnswersDue h
@@ -51,7 +51,7 @@ pub record Serves (s : ServerParts) (h : History) : Type 0 where
 
 -- after the history, the entry is the answer to the addition, and the bytes are as both say (RFC 8613, B.1)
 abbrev pub AddsIn : History → SecurityContext → Start → WindowSize → Entry → ServerParts → Type 0
-AddsIn h c start size entry s = ServerAnswer h (Add c start size) entry × Serves s (Then h (Add c start size) entry)
+AddsIn h c start size entry s = ServerAnswer h (Add c start size 1) entry × Serves s (Then h (Add c start size 1) entry)
 
 -- after the history, what was decided about a datagram is the answer, and the bytes are as both say (how the code is seen)
 pub record DecidesIn (h : History) (now : ℕ) (fresh : Fresh) (d : List ℕ) (decision : Decision) (new reply : List ℕ) (s : ServerParts) : Type 0 where

@@ -91,6 +91,8 @@ impl SlotHandle {
 }
 
 impl Contexts for SlotHandle {
+    ghost places = { 1 };
+
     ghost is_table = { IsSlotBytes };
 
     ghost holds = { λ b slots. IsTableIn (table_of b) slots };

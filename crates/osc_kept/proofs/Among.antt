@@ -15,7 +15,7 @@ use Rattle.osc_endpoint.specs.ServerAnswer.{MeetsNamedRow, MeetsRow, NamesNone, 
 use Rattle.osc_life.specs.ServerHistory as server
 use Rattle.osc_kept.specs.Among.{AnswersAmong, EachContext, IsAdded, IsShare, SetsClock}
 use Rattle.osc_kept.specs.Claims.{TwoEnds}
-use Rattle.osc_kept.specs.Premises.{Answers, AtEach, IsNoAdd}
+use Rattle.osc_kept.specs.Premises.{Answers, AtEach, BringsNoContext}
 use Rattle.osc_kept.specs.World.{World, Event, Begin, Then, Draws, Reserves, ClientStarts, ServerStarts, AtClient, AtServer, server_history}
 use Rattle.osc_kept.proofs.SharedTickets.{takes_share}
 
@@ -53,8 +53,9 @@ module _ (f g : server.History) (here : (j : ℕ) → server.life f j ≡ server
   notify_row t p room (server.NotReplied NotObserving) row = (row.0, (sym (here t.context) ∙ row.1.0, row.1.1), row.2)
   notify_row t p room entry row = (row.0, (row.1.0, (sym (here t.context) ∙ row.1.1.0, row.1.1.1), row.1.2))
 
-  like_answer : server.clock f ≡ server.clock g → (event : server.Event) (entry : server.Entry) → IsNoAdd event → ServerAnswer f event entry → ServerAnswer g event entry
-  like_answer same (server.Add context start size) entry isnt row = absurd isnt
+  like_answer : server.clock f ≡ server.clock g → (event : server.Event) (entry : server.Entry) → BringsNoContext event → ServerAnswer f event entry → ServerAnswer g event entry
+  like_answer same (server.Add context start size places) entry isnt row = absurd isnt
+  like_answer same (server.Replace context by start size) entry isnt row = absurd isnt
   like_answer same (server.Datagram now echo mid d) (server.Took answer reply) isnt row =
       let e : arrival f now echo mid d ≡ arrival g now echo mid d = ap (λ (c : ℕ). record { clock = max c now; echo = echo; mid = mid; bytes = d }) same in
       like_take (arrival f now echo mid d) (arrival g now echo mid d) answer reply e row
@@ -73,7 +74,7 @@ like_left f g k event entry ts left = k ts left
 
 -- ---- the share of an answer is an answer
 
-shared : ContextsStandAlone → (i : ℕ) (g : server.History) (event : server.Event) (entry : server.Entry) → IsNoAdd event → IsShare i g event entry → ServerAnswer g event entry
+shared : ContextsStandAlone → (i : ℕ) (g : server.History) (event : server.Event) (entry : server.Entry) → BringsNoContext event → IsShare i g event entry → ServerAnswer g event entry
 shared alone i g event entry isnt x =
     let all : AllAnswers (server.Then x.h x.of x.result) = (x.all, x.answer) in
     let both : AllAnswers (server.Then (share i x.h) event entry) = subst AllAnswers x.after (alone (server.Then x.h x.of x.result) i all).answers in
@@ -85,13 +86,13 @@ takes i g event entry x =
     (own.0, like_left (share i x.h) g x.before.left_is event entry own.0 own.1)
 
 -- a context that is added to a server of many can be added to one that has none
-added : (i : ℕ) (s : SecurityContext) (start : Start) (size : WindowSize) → IsAdded i s start size → ServerAnswer server.Begin (server.Add s start size) (server.Added 0)
-added i s start size (h, row) = (row.0, (omega arith, λ taken. let e : None ≡ Some taken.1 = taken.2 in cc, refl))
+added : (i : ℕ) (s : SecurityContext) (start : Start) (size : WindowSize) → IsAdded i s start size → ServerAnswer server.Begin (server.Add s start size 1) (server.Added 0)
+added i s start size (h, places, row) = (row.0, (omega arith, λ taken. let e : None ≡ Some taken.1 = taken.2 in cc, refl))
 
-set_clock : (n : ℕ) (s : SecurityContext) (w : World) (g : server.History) (event : server.Event) (entry : server.Entry) → server_history s w ≡ Some g → IsNoAdd event → SetsClock g event entry
+set_clock : (n : ℕ) (s : SecurityContext) (w : World) (g : server.History) (event : server.Event) (entry : server.Entry) → server_history s w ≡ Some g → BringsNoContext event → SetsClock g event entry
     → Answers n s w (AtServer event entry)
-set_clock n s w (server.Then server.Begin (server.Add context start size) (server.Added index)) (server.Advance now) server.Advanced is isnt x =
-    (server.Then server.Begin (server.Add context start size) (server.Added index), is, tt, tt, ([], refl))
+set_clock n s w (server.Then server.Begin (server.Add context start size places) (server.Added index)) (server.Advance now) server.Advanced is isnt x =
+    (server.Then server.Begin (server.Add context start size places) (server.Added index), is, tt, tt, ([], refl))
 set_clock n s w g event entry is isnt x = absurd x
 
 answers : ContextsStandAlone → (n i : ℕ) (s : SecurityContext) (w : World) (event : Event) → AnswersAmong n i s w event → Answers n s w event

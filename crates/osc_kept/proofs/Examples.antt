@@ -210,7 +210,7 @@ premises_met laws n s x first second again r k v u echo a c p room usable free s
     let asked2 : client.History = client.Then (client.Then asked1 (client.Datagram 0 a) (client.Took (client.Deliver v 0))) (client.Restart 64) client.Restarted in
     let asked3 : client.History = client.Then asked2 (client.Request 0 second.plain second.room) (client.Sent second.bytes) in
     let asked4 : client.History = client.Then asked3 (client.Datagram 0 c) (client.Took (client.Deliver u 64)) in
-    let served1 : server.History = server.Then (server.Then server.Begin (server.Add s (starts.Fresh x.zero_number) x.size) (server.Added 0)) (server.Datagram 0 echo 0 first.bytes)
+    let served1 : server.History = server.Then (server.Then server.Begin (server.Add s (starts.Fresh x.zero_number) x.size 1) (server.Added 0)) (server.Datagram 0 echo 0 first.bytes)
     (server.Took (server.Deliver r (ticket_of 0 0 r)) []) in
     let served2 : server.History = server.Then (server.Then served1 (server.Reply (ticket_of 0 0 r) false 0 p room) (server.Replied a)) (server.Restart 0 64) server.Restarted in
     let life1 : Life = marked (Some (Delivered 0)) (born s (starts.Fresh x.zero_number) x.size) in

@@ -313,7 +313,7 @@ load_alike n o p = record { next_is = refl; limit_is = refl; hand_is = refl }
 
 fresh_start : (s : SecurityContext) (w : World) (first : Piv) (size : WindowSize) (loaded floor : ℕ) → IsStart (starts.Fresh first) loaded → Allowed (Load loaded) (nothing_drawn floor)
     → StartsOn Server s w loaded (server_started (starts.Fresh first) size w) floor (started (starts.Fresh first) loaded (nothing_drawn floor))
-    × ServerRuns s (server_started (starts.Fresh first) size w) (server.Then server.Begin (server.Add s (starts.Fresh first) size) (server.Added 0)) (started (starts.Fresh first) loaded (nothing_drawn floor))
+    × ServerRuns s (server_started (starts.Fresh first) size w) (server.Then server.Begin (server.Add s (starts.Fresh first) size 1) (server.Added 0)) (started (starts.Fresh first) loaded (nothing_drawn floor))
 fresh_start s w first size loaded floor i a =
     let f : number_of first ≡ loaded = i.0 in
     let top : loaded < 2 ^ 40 = a.1 in
@@ -336,7 +336,7 @@ fresh_start s w first size loaded floor i a =
 
 later_start : (s : SecurityContext) (w : World) (first : Piv) (size : WindowSize) (loaded floor : ℕ) → IsStart (starts.Restarted first) loaded → Allowed (Load loaded) (nothing_drawn floor)
     → StartsOn Server s w loaded (server_started (starts.Restarted first) size w) floor (started (starts.Restarted first) loaded (nothing_drawn floor))
-    × ServerRuns s (server_started (starts.Restarted first) size w) (server.Then server.Begin (server.Add s (starts.Restarted first) size) (server.Added 0)) (started (starts.Restarted first) loaded (nothing_drawn floor))
+    × ServerRuns s (server_started (starts.Restarted first) size w) (server.Then server.Begin (server.Add s (starts.Restarted first) size 1) (server.Added 0)) (started (starts.Restarted first) loaded (nothing_drawn floor))
 later_start s w first size loaded floor i a =
     let f : number_of first ≡ loaded = i.0 in
     let top : loaded < 2 ^ 40 = a.1 in

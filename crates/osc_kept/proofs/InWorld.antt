@@ -23,13 +23,14 @@ use Rattle.osc_kept_ends.specs.KeptAsking as asking
 use Rattle.osc_kept_ends.specs.KeptServing as serving
 use Rattle.osc_kept.specs.Claims.{TwoEnds}
 use Rattle.osc_kept_ends.specs.Numbering.{Own, AreAlike}
-use Rattle.osc_kept.specs.Premises.{Answers, AtEach, EchoIsNew, IsKept, IsNoAdd, LoadsNoneBelow, NobodyForges, NobodyForgesRequests, NobodyForgesResponses, NumbersAreKept, SealedByClient, SealedByServer}
+use Rattle.osc_kept.specs.Premises.{Answers, AtEach, EchoIsNew, IsKept, BringsNoContext, LoadsNoneBelow, NobodyForges, NobodyForgesRequests, NobodyForgesResponses, NumbersAreKept, SealedByClient, SealedByServer}
 use Rattle.osc_kept.specs.World.{World, Begin, Then, End, Client, Server, ClientStarts, ServerStarts, Draws, Reserves, AtClient, AtServer, Has, answered, client_history, numbers, sent, server_history}
 use Rattle.osc_kept.proofs.Beginning.{more_kept}
 use Rattle.osc_kept.proofs.GoingOn.{client_begins, client_goes_on, client_is, client_none, load_is, no_load, server_begins, server_goes_on, server_is, server_none}
 use Rattle.osc_kept.proofs.Lives.{Stands, no_skip, no_took, some_is, stands}
 use Rattle.osc_kept.proofs.Rising.{limit_above}
 use Rattle.osc_kept.proofs.Saving.{fresh_by_saving, saved_still}
+use Rattle.osc_laws.proofs.DeliveredNumbers.{no_other}
 
 -- ---- tickets
 
@@ -54,10 +55,11 @@ has_ticket s w h event entry x = tt
 pub tickets_step : (h : server.History) (event : server.Event) (entry : server.Entry) → HasTicket h event entry → ServerAnswer h event entry → TakesTickets h
     → TakesTickets (server.Then h event entry)
 tickets_step h (server.Datagram now echo mid d) (server.Took (server.Deliver received t) reply) p a x = (t ∷ x.0, (x.0, x.1, refl))
-tickets_step h (server.Add context start size) (server.Took (server.Deliver received t) reply) p a x = absurd a.1
+tickets_step h (server.Add context start size places) (server.Took (server.Deliver received t) reply) p a x = absurd a.1
 tickets_step h (server.Reply t own mid q room) (server.Took (server.Deliver received u) reply) p a x = absurd a.2
 tickets_step h (server.Notify t q room) (server.Took (server.Deliver received u) reply) p a x = absurd a.1.2
 tickets_step h (server.Restart c next) (server.Took (server.Deliver received t) reply) p a x = absurd (no_took (server.life h c) (server.Deliver received t) reply a)
+tickets_step h (server.Replace c by start size) (server.Took (server.Deliver received t) reply) p a x = absurd (no_other (server.life h c) (server.Took (server.Deliver received t) reply) tt a.1)
 tickets_step h (server.Skip c count) (server.Took (server.Deliver received t) reply) p a x = absurd (no_skip (server.life h c) count (server.Deliver received t) reply a)
 tickets_step h (server.Advance now) (server.Took (server.Deliver received t) reply) p a x = absurd a
 tickets_step h (server.Reply t own mid q room) (server.Replied bytes) p a x = (p.1, (p.0, p.2, p.3))
@@ -179,9 +181,10 @@ fresh_renewed true next None y e f = let g : None ≡ Some y = e in cc
 fresh_renewed true next (Some x) y e f = let g : false ≡ true = ap (λ (l : Life). needs_no_echo l.doubt l.open_at_birth) (some_is e) ∙ f in cc
 fresh_renewed false next o y e f = (y, e, f)
 
-fresh_before : (h : server.History) (event : server.Event) (entry : server.Entry) (i : ℕ) (of : Life) → IsNoAdd event → server.life (server.Then h event entry) i ≡ Some of
+fresh_before : (h : server.History) (event : server.Event) (entry : server.Entry) (i : ℕ) (of : Life) → BringsNoContext event → server.life (server.Then h event entry) i ≡ Some of
     → IsReady of → (x : Life) × (server.life h i ≡ Some x) × IsReady x
-fresh_before h (server.Add context start size) entry i of a e f = absurd a
+fresh_before h (server.Add context start size places) entry i of a e f = absurd a
+fresh_before h (server.Replace context by start size) entry i of a e f = absurd a
 fresh_before h (server.Datagram now echo mid d) (server.Took answer reply) i of a e f = fresh_marked (server.mark_at i answer) (server.life h i) of e f
 fresh_before h (server.Reply t own mid p room) (server.Replied bytes) i of a e f = fresh_marked (server.reply_mark_at i t own) (server.life h i) of e f
 fresh_before h (server.Notify t p room) (server.Replied bytes) i of a e f = fresh_marked (server.reply_mark_at i t true) (server.life h i) of e f
@@ -202,7 +205,7 @@ saves_at : (s : SecurityContext) (w : World) (event : server.Event) (entry : ser
 saves_at s w (server.Datagram now echo mid d) entry x = x.last
 saves_at s w event entry x = tt
 
-server_saved : (s : SecurityContext) (w : World) (h : server.History) (event : server.Event) (entry : server.Entry) → server_history s w ≡ Some h → IsNoAdd event
+server_saved : (s : SecurityContext) (w : World) (h : server.History) (event : server.Event) (entry : server.Entry) → server_history s w ≡ Some h → BringsNoContext event
     → AtEach (NumbersAreKept s) (Then w (AtServer event entry)) → HasSavedFirst s w → HasSavedFirst s (Then w (AtServer event entry))
 server_saved s w h event entry e n k x =
     record {
@@ -237,7 +240,7 @@ new_at s w v h (server.Datagram now echo mid d) (server.Took answer reply) e kno
 new_at s w v h event entry e known only a p = tt
 
 server_lawful : (n : ℕ) (s : SecurityContext) (w v : World) (h : server.History) (event : server.Event) (entry : server.Entry) (old new : Own) → IsKept n s w → server_history s w ≡ Some h
-    → GoesOn Server s w (AtServer event entry) v old new → IsNoAdd event → ServerAnswer h event entry → ServerTrusts s w h event entry
+    → GoesOn Server s w (AtServer event entry) v old new → BringsNoContext event → ServerAnswer h event entry → ServerTrusts s w h event entry
     → IsKept n s v × (HasSavedFirst s w → HasSavedFirst s v)
 server_lawful n s w v h event entry old new i e on plain a p =
     let b : World = on.between in
@@ -323,7 +326,7 @@ client_in_world claims n s w h event entry old new i r a m p =
 none_there : (s : SecurityContext) → IsTaken server.Begin s → ⊥
 none_there s x = let f : None ≡ Some x.1 = x.2 in cc
 
-pub added_alone : (s : SecurityContext) (start : Start) (size : WindowSize) → IsUsable s → ServerAnswer server.Begin (server.Add s start size) (server.Added 0)
+pub added_alone : (s : SecurityContext) (start : Start) (size : WindowSize) → IsUsable s → ServerAnswer server.Begin (server.Add s start size 1) (server.Added 0)
 added_alone s start size u = (record { client = u.client_fits; server = u.server_fits; differ = u.differ }, (omega arith, λ x. none_there s x, refl))
 
 first_lawful : (n : ℕ) (s : SecurityContext) (w : World) (start : Start) (size : WindowSize) → IsKept n s w → HasSavedFirst s w → AtEach (NumbersAreKept s) (Then w (ServerStarts start size))

@@ -18,6 +18,7 @@ use Rattle.osc_kept.proofs.Digest.{digest}
 use Rattle.osc_kept.proofs.Fitting.{all_at, context_in, has_middle, left_given, same_life}
 use Rattle.osc_kept.proofs.Lives.{Stands, no_skip, no_took, some_is, stands}
 use Rattle.osc_kept.proofs.Owned.{runs}
+use Rattle.osc_laws.proofs.DeliveredNumbers.{no_other}
 
 abbrev AllPlain : List server.TicketValues → Type 0
 AllPlain ts = AllByRecursion (λ (t : server.TicketValues). t.observes ≡ false) ts
@@ -46,10 +47,11 @@ module _ (ends : EndsArePlain) (n : ℕ) (s : SecurityContext) (off : s.features
 
   given_step : (g : server.History) (event : server.Event) (entry : server.Entry) → ServerIsPlain g → ServerAnswer g event entry → AllPlain (delivered g) → AllPlain (delivered (server.Then g event entry))
   given_step g (server.Datagram now echo mid d) (server.Took (server.Deliver received t) reply) plain row all = (plain.delivered (arrival g now echo mid d) received t row.0, all)
-  given_step g (server.Add context start size) (server.Took (server.Deliver received t) reply) plain row all = absurd row.1
+  given_step g (server.Add context start size places) (server.Took (server.Deliver received t) reply) plain row all = absurd row.1
   given_step g (server.Reply t own mid p room) (server.Took (server.Deliver received u) reply) plain row all = absurd row.2
   given_step g (server.Notify t p room) (server.Took (server.Deliver received u) reply) plain row all = absurd row.1.2
   given_step g (server.Restart c next) (server.Took (server.Deliver received t) reply) plain row all = absurd (no_took (server.life g c) (server.Deliver received t) reply row)
+  given_step g (server.Replace c by start size) (server.Took (server.Deliver received t) reply) plain row all = absurd (no_other (server.life g c) (server.Took (server.Deliver received t) reply) tt row.1)
   given_step g (server.Skip c count) (server.Took (server.Deliver received t) reply) plain row all = absurd (no_skip (server.life g c) count (server.Deliver received t) reply row)
   given_step g (server.Advance now) (server.Took (server.Deliver received t) reply) plain row all = absurd row
   given_step g event entry plain row all = all

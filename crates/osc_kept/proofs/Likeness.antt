@@ -7,10 +7,10 @@ use Rattle.osc_window.specs.declared.window_size.WindowSize.{WindowSize}
 use Rattle.osc_life.specs.declared.start.Start.{Start}
 use Rattle.osc_laws.specs.Laws.{AllAnswers}
 use Rattle.osc_endpoint.specs.Tickets.{AreLeft}
-use Rattle.osc_life.specs.Life.{Life, born, marked, renewed}
+use Rattle.osc_life.specs.Life.{Life, born, marked, renewed, succeeding}
 use Rattle.osc_laws.specs.OneContext.{ContextsStandAlone, share}
-use Rattle.osc_life.specs.ServerHistory.{Add, Added, Advance, Advanced, Begin, Datagram, Deliver, Entry, Event, History, Notify, Replied, Reply, Restart, Restarted, Skip, Skipped, Then, TicketValues, Took, added, clock, clock_by, life, mark_at, reply_mark_at, skip_mark_at}
-use Rattle.osc_laws.proofs.DeliveredNumbers.{none_beyond}
+use Rattle.osc_life.specs.ServerHistory.{Add, Added, Advance, Advanced, Begin, Datagram, Deliver, Entry, Event, History, Notify, Replace, Replaced, Replied, Reply, Restart, Restarted, Skip, Skipped, Then, TicketValues, Took, added, clock, clock_by, life, mark_at, reply_mark_at, skip_mark_at}
+use Rattle.osc_laws.proofs.DeliveredNumbers.{no_other, none_beyond}
 use Rattle.osc_laws.proofs.Shares.{none_yet}
 use Rattle.osc_kept.specs.Among.{IsLike, StaysLike}
 use Rattle.osc_kept.proofs.Among.{like_left}
@@ -32,10 +32,11 @@ none_left : (f : History) (ts : List TicketValues) → AllAnswers f → added f 
 none_left Begin ts all none left = left
 none_left (Then f (Datagram now echo mid d) (Took (Deliver received t) reply)) ts all none left =
     absurd (never f all.1.0.0 all.1.0.2 all.0 none all.1.0.3.life_is)
-none_left (Then f (Add context start size) (Took (Deliver received t) reply)) ts all none left = absurd all.1.1
+none_left (Then f (Add context start size places) (Took (Deliver received t) reply)) ts all none left = absurd all.1.1
 none_left (Then f (Reply t own mid p room) (Took (Deliver received u) reply)) ts all none left = absurd all.1.2
 none_left (Then f (Notify t p room) (Took (Deliver received u) reply)) ts all none left = absurd all.1.1.2
 none_left (Then f (Restart c next) (Took (Deliver received t) reply)) ts all none left = absurd (no_took (life f c) (Deliver received t) reply all.1)
+none_left (Then f (Replace c s start size) (Took (Deliver received t) reply)) ts all none left = absurd (no_other (life f c) (Took (Deliver received t) reply) tt all.1.1)
 none_left (Then f (Skip c count) (Took (Deliver received t) reply)) ts all none left = absurd (no_skip (life f c) count (Deliver received t) reply all.1)
 none_left (Then f (Advance now) (Took (Deliver received t) reply)) ts all none left = absurd all.1
 none_left (Then f (Reply t own mid p room) (Replied bytes)) ts all none left = absurd (never f t.context all.1.0 all.0 none all.1.1.0)
@@ -50,11 +51,12 @@ chosen_self true x y e = refl
 chosen_self false x y e = absurd (let f : false ≡ true = e in cc)
 
 like_life : (f g : History) (event : Event) (entry : Entry) → ((j : ℕ) → life f j ≡ life g j) → (j : ℕ) → life (Then f event entry) j ≡ life (Then g event entry) j
-like_life f g (Add context start size) (Added index) here j = ap (λ (o : Option Life). if j == index then Some (born context start size) else o) (here j)
+like_life f g (Add context start size places) (Added index) here j = ap (λ (o : Option Life). if j == index then Some (born context start size) else o) (here j)
 like_life f g (Datagram now echo mid d) (Took answer reply) here j = ap (option_map (marked (mark_at j answer))) (here j)
 like_life f g (Reply t own mid p room) (Replied bytes) here j = ap (option_map (marked (reply_mark_at j t own))) (here j)
 like_life f g (Notify t p room) (Replied bytes) here j = ap (option_map (marked (reply_mark_at j t true))) (here j)
 like_life f g (Restart context next) Restarted here j = ap (λ (o : Option Life). if j == context then option_map (renewed next) o else o) (here j)
+like_life f g (Replace context by start size) Replaced here j = ap (λ (o : Option Life). if j == context then option_map (succeeding by start size) o else o) (here j)
 like_life f g (Skip context count) Skipped here j = ap (option_map (marked (skip_mark_at j context count))) (here j)
 like_life f g event entry here j = here j
 
@@ -65,14 +67,14 @@ like_on f g event entry x = record {
   left_is = λ ts left. like_left f g x.left_is event entry ts left;
 }
 
-begins : ContextsStandAlone → (h : History) (i : ℕ) (s : SecurityContext) (start : Start) (size : WindowSize) → AllAnswers (Then h (Add s start size) (Added i))
-    → IsLike (share i (Then h (Add s start size) (Added i))) (Then (Then Begin (Add s start size) (Added 0)) (Advance (clock h)) Advanced)
-begins alone h i s start size all =
+begins : ContextsStandAlone → (h : History) (i : ℕ) (s : SecurityContext) (start : Start) (size : WindowSize) (places : ℕ) → AllAnswers (Then h (Add s start size places) (Added i))
+    → IsLike (share i (Then h (Add s start size places) (Added i))) (Then (Then Begin (Add s start size 1) (Added 0)) (Advance (clock h)) Advanced)
+begins alone h i s start size places all =
     let index_is : i ≡ added h = all.1.1.2 in
     let of = alone h i all.0 in
     let none : added (share i h) ≡ 0 = none_yet i h all.0 (omega (arith, index_is)) in
-    let f : History = Then (share i h) (Add s start size) (Added 0) in
-    let g : History = Then (Then Begin (Add s start size) (Added 0)) (Advance (clock h)) Advanced in
+    let f : History = Then (share i h) (Add s start size places) (Added 0) in
+    let g : History = Then (Then Begin (Add s start size 1) (Added 0)) (Advance (clock h)) Advanced in
     subst (λ x. IsLike x g) (sym (chosen_self (i == i) f (share i h) (grind arith))) (record {
       clock_is = of.clock_is ∙ omega arith;
       life_is = λ j. ap (λ (o : Option Life). if j == 0 then Some (born s start size) else o) (no_life (share i h) of.answers none j);

@@ -14,10 +14,11 @@ use Rattle.osc_client.specs.ClientHistory as client
 use Rattle.osc_observe.specs.Received.{Received}
 use Rattle.osc_life.specs.ServerHistory as server
 use Rattle.osc_kept_ends.specs.Numbering.{Effect, Stay, Load, Use, use_of}
-use Rattle.osc_kept.specs.Premises.{AtEach, Answers, IsNoAdd}
+use Rattle.osc_kept.specs.Premises.{AtEach, Answers, BringsNoContext}
 use Rattle.osc_kept.specs.World.{World, Begin, Then, ServerStarts, AtClient, AtServer, client_history, server_history, server_life, server_effect}
 use Rattle.osc_kept.proofs.Deeds.{Deed, Begins, Renews, Challenges, Replies, Notifies, Nothing, life_in, with_mark, replied, given, taken}
 use Rattle.osc_kept.proofs.Digest.{client_deed, server_deed, digest}
+use Rattle.osc_laws.proofs.DeliveredNumbers.{no_other}
 
 abbrev pub OnlyFirst : server.History → Type 0
 OnlyFirst h = (i : ℕ) (of : Life) → server.life h i ≡ Some of → i ≡ 0
@@ -32,9 +33,10 @@ from_choice : (b : Bool) (f : Life → Life) (o : Option Life) (y : Life) → (i
 from_choice true f o y e = from_map f o y e
 from_choice false f o y e = (y, e)
 
-was_there : (h : server.History) (event : server.Event) (entry : server.Entry) (i : ℕ) (of : Life) → IsNoAdd event → server.life (server.Then h event entry) i ≡ Some of
+was_there : (h : server.History) (event : server.Event) (entry : server.Entry) (i : ℕ) (of : Life) → BringsNoContext event → server.life (server.Then h event entry) i ≡ Some of
     → (x : Life) × (server.life h i ≡ Some x)
-was_there h (server.Add context start size) entry i of a e = absurd a
+was_there h (server.Add context start size places) entry i of a e = absurd a
+was_there h (server.Replace context by start size) entry i of a e = absurd a
 was_there h (server.Datagram now echo mid d) (server.Took answer reply) i of a e = from_map (marked (server.mark_at i answer)) (server.life h i) of e
 was_there h (server.Reply t own mid p room) (server.Replied bytes) i of a e = from_map (marked (server.reply_mark_at i t own)) (server.life h i) of e
 was_there h (server.Notify t p room) (server.Replied bytes) i of a e = from_map (marked (server.reply_mark_at i t true)) (server.life h i) of e
@@ -42,14 +44,14 @@ was_there h (server.Restart context next) server.Restarted i of a e = from_choic
 was_there h (server.Skip context count) server.Skipped i of a e = from_map (marked (server.skip_mark_at i context count)) (server.life h i) of e
 was_there h event entry i of a e = (of, e)
 
-only_step : (h : server.History) (event : server.Event) (entry : server.Entry) → IsNoAdd event → OnlyFirst h → OnlyFirst (server.Then h event entry)
+only_step : (h : server.History) (event : server.Event) (entry : server.Entry) → BringsNoContext event → OnlyFirst h → OnlyFirst (server.Then h event entry)
 only_step h event entry a z i of e = let x = was_there h event entry i of a e in z i x.0 x.1
 
 is_chosen : (b : Bool) (l of : Life) → (if b then Some l else None) ≡ Some of → b ≡ true
 is_chosen true l of e = refl
 is_chosen false l of e = cc
 
-only_born : (s : SecurityContext) (start : Start) (size : WindowSize) → OnlyFirst (server.Then server.Begin (server.Add s start size) (server.Added 0))
+only_born : (s : SecurityContext) (start : Start) (size : WindowSize) → OnlyFirst (server.Then server.Begin (server.Add s start size 1) (server.Added 0))
 only_born s start size i of e = eqb-true i 0 (is_chosen (i == 0) (born s start size) of e)
 
 -- ---- which context an answer names
@@ -97,9 +99,10 @@ no_took (Some x) answer reply a = a
 abbrev pub IsPresentIn : SecurityContext → List Deed → server.History → Type 0
 IsPresentIn s ds h = server.life h 0 ≡ Some (life_in s ds)
 
-present_step : (s : SecurityContext) (ds : List Deed) (h : server.History) (event : server.Event) (entry : server.Entry) → IsPresentIn s ds h → OnlyFirst h → IsNoAdd event
+present_step : (s : SecurityContext) (ds : List Deed) (h : server.History) (event : server.Event) (entry : server.Entry) → IsPresentIn s ds h → OnlyFirst h → BringsNoContext event
     → ServerAnswer h event entry → IsPresentIn s (server_deed (Some (life_in s ds)) event entry ∷ ds) (server.Then h event entry)
-present_step s ds h (server.Add context start size) entry p z n a = absurd n
+present_step s ds h (server.Add context start size places) entry p z n a = absurd n
+present_step s ds h (server.Replace context by start size) entry p z n a = absurd n
 present_step s ds h (server.Datagram now echo mid d) (server.Took (server.BadInner i k) reply) p z n a =
     marks_here (server.life h 0) (life_in s ds) (Spoiled k) i p (spoiled_first h (record { clock = max (server.clock h) now; echo = echo; mid = mid; bytes = d }) i k reply z a)
 present_step s ds h (server.Datagram now echo mid d) (server.Took (server.Challenge i k value issued) reply) p z n a =
@@ -122,10 +125,11 @@ present_step s ds h event entry p z n a = p
 given_step : (l : Life) (ds : List Deed) (h : server.History) (event : server.Event) (entry : server.Entry) → ServerAnswer h event entry → delivered h ≡ given ds
     → delivered (server.Then h event entry) ≡ given (server_deed (Some l) event entry ∷ ds)
 given_step l ds h (server.Datagram now echo mid d) (server.Took (server.Deliver received t) reply) a e = ap (λ ts. t ∷ ts) e
-given_step l ds h (server.Add context start size) (server.Took (server.Deliver received t) reply) a e = absurd a.1
+given_step l ds h (server.Add context start size places) (server.Took (server.Deliver received t) reply) a e = absurd a.1
 given_step l ds h (server.Reply t own mid q room) (server.Took (server.Deliver received u) reply) a e = absurd a.2
 given_step l ds h (server.Notify t q room) (server.Took (server.Deliver received u) reply) a e = absurd a.1.2
 given_step l ds h (server.Restart c next) (server.Took (server.Deliver received t) reply) a e = absurd (no_took (server.life h c) (server.Deliver received t) reply a)
+given_step l ds h (server.Replace c by start size) (server.Took (server.Deliver received t) reply) a e = absurd (no_other (server.life h c) (server.Took (server.Deliver received t) reply) tt a.1)
 given_step l ds h (server.Skip c count) (server.Took (server.Deliver received t) reply) a e = absurd (no_skip (server.life h c) count (server.Deliver received t) reply a)
 given_step l ds h (server.Advance now) (server.Took (server.Deliver received t) reply) a e = absurd a
 given_step l ds h event entry a e = e
@@ -171,7 +175,7 @@ pub record Stands (s : SecurityContext) (ds : List Deed) (h : server.History) : 
   pub taken_is : answered h ≡ taken ds
   pub lawful : AllAnswers h
 
-stands_step : (s : SecurityContext) (ds : List Deed) (h : server.History) (event : server.Event) (entry : server.Entry) → Stands s ds h → IsNoAdd event → ServerAnswer h event entry
+stands_step : (s : SecurityContext) (ds : List Deed) (h : server.History) (event : server.Event) (entry : server.Entry) → Stands s ds h → BringsNoContext event → ServerAnswer h event entry
     → Stands s (server_deed (Some (life_in s ds)) event entry ∷ ds) (server.Then h event entry)
 stands_step s ds h event entry i n a =
     record {

@@ -46,7 +46,7 @@ own_out_of_order_breaks laws n s x high q again r k u v echo c early late above 
     let w17 : World = hears 0 u late.bytes (notifies second late w15) in
     let asked1 : client.History = client.Then (client.New s 0 x.life_ms) (client.Request 0 again.plain again.room) (client.Sent again.bytes) in
     let asked2 : client.History = client.Then asked1 (client.Datagram 0 late.bytes) (client.Took (client.Notified u 0)) in
-    let served1 : server.History = server.Then (server.Then server.Begin (server.Add s (starts.Fresh high) x.size) (server.Added 0)) (server.Datagram 0 echo 0 q.bytes)
+    let served1 : server.History = server.Then (server.Then server.Begin (server.Add s (starts.Fresh high) x.size 1) (server.Added 0)) (server.Datagram 0 echo 0 q.bytes)
     (server.Took (server.Deliver r first) []) in
     let served2 : server.History = server.Then (server.Then served1 (server.Notify first early.plain early.room) (server.Replied early.bytes)) (server.Restart 0 0) server.Restarted in
     let served3 : server.History = server.Then (server.Then served2 (server.Datagram 0 echo 0 q.bytes) (server.Took (server.Challenge 0 0 echo 0) c)) (server.Datagram 0 echo 0 again.bytes)

@@ -120,7 +120,7 @@ observation_met laws n s x q r v u echo late lost third last usable answers =
     let asked1 : client.History = client.Then (client.New s 0 x.life_ms) (client.Request 0 q.plain q.room) (client.Sent q.bytes) in
     let asked2 : client.History = client.Then asked1 (client.Datagram 0 third.bytes) (client.Took (client.Notified v 0)) in
     let asked3 : client.History = client.Then asked2 (client.Datagram 0 late.bytes) (client.Took client.Old) in
-    let served1 : server.History = server.Then (server.Then server.Begin (server.Add s (starts.Fresh x.zero_number) x.size) (server.Added 0)) (server.Datagram 0 echo 0 q.bytes)
+    let served1 : server.History = server.Then (server.Then server.Begin (server.Add s (starts.Fresh x.zero_number) x.size 1) (server.Added 0)) (server.Datagram 0 echo 0 q.bytes)
     (server.Took (server.Deliver r t) []) in
     let served2 : server.History = server.Then served1 (server.Notify t late.plain late.room) (server.Replied late.bytes) in
     let served3 : server.History = server.Then served2 (server.Notify t lost.plain lost.room) (server.Replied lost.bytes) in

@@ -31,7 +31,7 @@ use Rattle.osc_kept_ends.specs.KeptAsking as asking
 use Rattle.osc_kept_runs.specs.KeptRuns.{ArrivalStep, ClientNumbers, ClientRun, ClientState, ClientStep, NotifyStep, ReplyStep, RequestStep, ServerRun, ServerState, ServerStep, client_state, server_state}
 use Rattle.osc_kept_ends.specs.Numbering.{Own, Steps}
 use Rattle.osc_kept_ends.specs.Owning.{own_in}
-use Rattle.osc_kept.specs.Premises.{IsKept, IsNoAdd, NobodyForgesRequests}
+use Rattle.osc_kept.specs.Premises.{IsKept, BringsNoContext, NobodyForgesRequests}
 use Rattle.osc_kept.specs.RunsInWorld.{ClientRunInWorld, ClientRunTrusts, ClientStepTrusts, IsBehind, IsOf, LoadsAbove, RunsOn, ServerRunInWorld, ServerRunTrusts, ServerStepTrusts}
 use Rattle.osc_kept.specs.World.{World, Begin, Then, Event, End, Client, Server, AtClient, AtServer, answered, numbers, sent}
 use Rattle.osc_kept.proofs.InWorld.{client_in_world, forges_still, had_tickets, responses_still, same_answered, same_sent, server_in_world, unseen_still}
@@ -101,7 +101,7 @@ record Served {K : Type 0} {k : keeper.Ghosts K} (n : ℕ) (s : SecurityContext)
 
 module _ {K : Type 0} {k : keeper.Ghosts K} (claims : TwoEnds) (n : ℕ) (s : SecurityContext) (w : World) (own : Own) where
   -- an event that is answered
-  served_on : (v : World) (a b : ServerState k) (event : server.Event) (entry : server.Entry) → Served n s w own v a → IsNoAdd event → server_run.GoesOn a.history event entry b.history
+  served_on : (v : World) (a b : ServerState k) (event : server.Event) (entry : server.Entry) → Served n s w own v a → BringsNoContext event → server_run.GoesOn a.history event entry b.history
       → ServerMoves a.history event entry (own_in a.source) (own_in b.source) → ServerTrusts s v a.history event entry
       → IsLeftTo (server.Then a.history event entry) b.tickets → (u : World) × Served n s w own u b
   served_on v a b event entry r plain (row, is) moves trusts left =

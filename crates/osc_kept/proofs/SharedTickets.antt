@@ -5,8 +5,9 @@ use Rattle.osc_laws.proofs.Shares.{of_chosen}
 use Rattle.osc_laws.specs.Laws.{AllAnswers}
 use Rattle.osc_endpoint.specs.Tickets.{AreLeft, TakesTickets}
 use Rattle.osc_laws.specs.OneContext.{share, ticket_alone}
-use Rattle.osc_life.specs.ServerHistory.{Add, Added, Advance, Advanced, BadInner, Begin, Challenge, Datagram, Deliver, History, Notify, Replied, Reply, Restart, Restarted, Skip, Skipped, Then, TicketValues, Took, life}
+use Rattle.osc_life.specs.ServerHistory.{Add, Added, Advance, Advanced, BadInner, Begin, Challenge, Datagram, Deliver, History, Notify, Replace, Replaced, Replied, Reply, Restart, Restarted, Skip, Skipped, Then, TicketValues, Took, life}
 use Rattle.osc_kept.proofs.Lives.{no_skip, no_took}
+use Rattle.osc_laws.proofs.DeliveredNumbers.{no_other}
 
 -- those of this context, as tickets of a server that has it alone
 abbrev of_context : ℕ → List TicketValues → List TicketValues
@@ -47,9 +48,9 @@ left_share i (Then h (Datagram now echo mid d) (Took (Challenge j k given issued
     let rest = left_share i h ts all.0 left in
     of_chosen (λ g. AreLeft g (of_context i ts)) (i == j) (Then (share i h) (Datagram now echo mid d) (Took (Challenge 0 k given issued) reply)) (Then (share i h) (Advance now) Advanced) (λ e. rest) (λ e. rest)
 left_share i (Then h (Datagram now echo mid d) (Took answer reply)) ts all left = left_share i h ts all.0 left
-left_share i (Then h (Add context start size) (Added index)) ts all left =
+left_share i (Then h (Add context start size places) (Added index)) ts all left =
     let rest = left_share i h ts all.0 left in
-    of_chosen (λ g. AreLeft g (of_context i ts)) (i == index) (Then (share i h) (Add context start size) (Added 0)) (share i h) (λ e. rest) (λ e. rest)
+    of_chosen (λ g. AreLeft g (of_context i ts)) (i == index) (Then (share i h) (Add context start size places) (Added 0)) (share i h) (λ e. rest) (λ e. rest)
 left_share i (Then h (Reply t own mid p room) (Replied bytes)) ts all (before, left, (front, back, was, is)) =
     let rest = left_share i h before all.0 left in
     of_chosen (λ g. AreLeft g (of_context i ts)) (i == t.context) (Then (share i h) (Reply (ticket_alone t) own mid p room) (Replied bytes)) (share i h)
@@ -65,13 +66,17 @@ left_share i (Then h (Notify t p room) (Replied bytes)) ts all (left, (front, ba
 left_share i (Then h (Restart c next) Restarted) ts all left =
     let rest = left_share i h ts all.0 left in
     of_chosen (λ g. AreLeft g (of_context i ts)) (i == c) (Then (share i h) (Restart 0 next) Restarted) (share i h) (λ e. rest) (λ e. rest)
+left_share i (Then h (Replace c by start size) Replaced) ts all left =
+    let rest = left_share i h ts all.0 left in
+    of_chosen (λ g. AreLeft g (of_context i ts)) (i == c) (Then (share i h) (Replace 0 by start size) Replaced) (share i h) (λ e. rest) (λ e. rest)
 left_share i (Then h (Skip c count) Skipped) ts all left =
     let rest = left_share i h ts all.0 left in
     of_chosen (λ g. AreLeft g (of_context i ts)) (i == c) (Then (share i h) (Skip 0 count) Skipped) (share i h) (λ e. rest) (λ e. rest)
-left_share i (Then h (Add context start size) (Took (Deliver received t) reply)) ts all left = absurd all.1.1
+left_share i (Then h (Add context start size places) (Took (Deliver received t) reply)) ts all left = absurd all.1.1
 left_share i (Then h (Reply t own mid p room) (Took (Deliver received u) reply)) ts all left = absurd all.1.2
 left_share i (Then h (Notify t p room) (Took (Deliver received u) reply)) ts all left = absurd all.1.1.2
 left_share i (Then h (Restart c next) (Took (Deliver received t) reply)) ts all left = absurd (no_took (life h c) (Deliver received t) reply all.1)
+left_share i (Then h (Replace c by start size) (Took (Deliver received t) reply)) ts all left = absurd (no_other (life h c) (Took (Deliver received t) reply) tt all.1.1)
 left_share i (Then h (Skip c count) (Took (Deliver received t) reply)) ts all left = absurd (no_skip (life h c) count (Deliver received t) reply all.1)
 left_share i (Then h (Advance now) (Took (Deliver received t) reply)) ts all left = absurd all.1
 left_share i (Then h event entry) ts all left = left_share i h ts all.0 left

@@ -10,10 +10,10 @@ use Rattle.osc_laws.specs.OneContext.{share}
 use Rattle.osc_endpoint.specs.ServerAnswer.{ServerAnswer}
 use Rattle.osc_life.specs.ServerHistory as server
 use Rattle.osc_kept.specs.Claims.{BothEnds}
-use Rattle.osc_kept.specs.Premises.{Answers, AtEach, EchoIsNew, StartsAboveDelivered, IsNoAdd, NobodyForges, BeginsAbove}
+use Rattle.osc_kept.specs.Premises.{Answers, AtEach, EchoIsNew, StartsAboveDelivered, BringsNoContext, NobodyForges, BeginsAbove}
 use Rattle.osc_kept.specs.World.{World, Event, AtServer, ServerStarts, server_history}
 
--- two histories with the same clock, the same lives and the same tickets left: what is answered, except to Add, depends on nothing else of them (own rule)
+-- two histories with the same clock, the same lives and the same tickets left: what is answered, except to Add and Replace, depends on nothing else of them (own rule)
 pub record IsLike (f g : server.History) : Type 0 where
   pub clock_is : server.clock f ≡ server.clock g
   pub life_is : (j : ℕ) → server.life f j ≡ server.life g j
@@ -33,18 +33,18 @@ pub record IsShare (i : ℕ) (g : server.History) (event : server.Event) (entry 
 
 -- the context was just added, and its clock is set, to that of the server of many (own rule)
 abbrev pub SetsClock : server.History → server.Event → server.Entry → Type 0
-SetsClock (server.Then server.Begin (server.Add context start size) (server.Added index)) (server.Advance now) server.Advanced = Unit {0}
+SetsClock (server.Then server.Begin (server.Add context start size places) (server.Added index)) (server.Advance now) server.Advanced = Unit {0}
 SetsClock g event entry = ⊥
 
 -- a context that starts is added to a server of many, at any time, as context i (own rule)
 abbrev pub IsAdded : ℕ → SecurityContext → Start → WindowSize → Type 0
-IsAdded i s start size = (h : server.History) × ServerAnswer h (server.Add s start size) (server.Added i)
+IsAdded i s start size = (h : server.History) × (places : ℕ) × ServerAnswer h (server.Add s start size places) (server.Added i)
 
 -- a running client answers by its table; a context that starts is added to a server of many, at any time; then its clock is set, and what happens to it is its
 -- share of what happens to that server (RFC 8613, 8.1 to 8.4)
 abbrev pub AnswersAmong : ℕ → ℕ → SecurityContext → World → Event → Type 0
 AnswersAmong n i s w (ServerStarts start size) = IsAdded i s start size
-AnswersAmong n i s w (AtServer event entry) = (g : server.History) × (server_history s w ≡ Some g) × IsNoAdd event × (IsShare i g event entry ⊎ SetsClock g event entry)
+AnswersAmong n i s w (AtServer event entry) = (g : server.History) × (server_history s w ≡ Some g) × BringsNoContext event × (IsShare i g event entry ⊎ SetsClock g event entry)
 AnswersAmong n i s w event = Answers n s w event
 
 -- the premises on two ends, of which the server's is one context of many (own rule)
@@ -63,7 +63,7 @@ EachContext = (n i : ℕ) (s : SecurityContext) (w : World) → IsLawfulAmong n 
 -- the share of a context that was just added is like the history of its server alone, with the clock set; and two histories that are alike stay so by any
 -- event: so what happens to the context meets the condition on its share (own rule)
 pub record StaysLike : Type 0 where
-  pub begins : (h : server.History) (i : ℕ) (s : SecurityContext) (start : Start) (size : WindowSize) → AllAnswers (server.Then h (server.Add s start size) (server.Added i))
-      → IsLike (share i (server.Then h (server.Add s start size) (server.Added i)))
-      (server.Then (server.Then server.Begin (server.Add s start size) (server.Added 0)) (server.Advance (server.clock h)) server.Advanced)
+  pub begins : (h : server.History) (i : ℕ) (s : SecurityContext) (start : Start) (size : WindowSize) (places : ℕ) → AllAnswers (server.Then h (server.Add s start size places) (server.Added i))
+      → IsLike (share i (server.Then h (server.Add s start size places) (server.Added i)))
+      (server.Then (server.Then server.Begin (server.Add s start size 1) (server.Added 0)) (server.Advance (server.clock h)) server.Advanced)
   pub goes_on : (f g : server.History) (event : server.Event) (entry : server.Entry) → IsLike f g → IsLike (server.Then f event entry) (server.Then g event entry)

@@ -87,7 +87,7 @@ pub record StartsOn (of : End) (s : SecurityContext) (w : World) (loaded : ℕ) 
 abbrev pub ServerBegins : Type 0
 ServerBegins = (s : SecurityContext) (w : World) (start : Start) (size : WindowSize) (loaded floor : ℕ) → IsStart start loaded → Allowed (Load loaded) (nothing_drawn floor)
     → StartsOn Server s w loaded (server_started start size w) floor (started start loaded (nothing_drawn floor))
-    × ServerRuns s (server_started start size w) (server.Then server.Begin (server.Add s start size) (server.Added 0)) (started start loaded (nothing_drawn floor))
+    × ServerRuns s (server_started start size w) (server.Then server.Begin (server.Add s start size 1) (server.Added 0)) (started start loaded (nothing_drawn floor))
 
 -- the same for a kept client (RFC 8613, B.1.1)
 abbrev pub ClientBegins : Type 0

@@ -16,7 +16,7 @@ use Rattle.osc_kept.specs.Claims.{BothEnds}
 use Rattle.osc_kept.specs.GoingOn.{ClientMoves, ClientRuns, GoesOn, HasSavedFirst, ServerMoves, ServerRuns, server_started}
 use Rattle.osc_kept_ends.specs.KeptServing.{IsStart, started}
 use Rattle.osc_kept_ends.specs.Numbering.{Own, Allowed, Goes, Load, nothing_drawn}
-use Rattle.osc_kept.specs.Premises.{IsKept, IsNoAdd, NobodyForgesRequests, NobodyForgesResponses}
+use Rattle.osc_kept.specs.Premises.{IsKept, BringsNoContext, NobodyForgesRequests, NobodyForgesResponses}
 use Rattle.osc_kept.specs.World.{World, Then, Client, Server, ClientStarts, AtClient, AtServer, Has, Request, numbers, sent}
 
 -- ---- what an end doesn't see to by itself
@@ -63,7 +63,7 @@ pub record IsAsClaimed (n : ℕ) (s : SecurityContext) (w v : World) : Type 0 wh
 -- a kept server's answer to an event extends a world that meets the premises to one that does too, if others do their part (RFC 8613, B.1.1)
 abbrev pub ServerInWorld : Type 0
 ServerInWorld = (n : ℕ) (s : SecurityContext) (w : World) (h : server.History) (event : server.Event) (entry : server.Entry) (old new : Own) → IsKept n s w
-    → ServerRuns s w h old → IsNoAdd event → ServerAnswer h event entry → ServerMoves h event entry old new → ServerTrusts s w h event entry
+    → ServerRuns s w h old → BringsNoContext event → ServerAnswer h event entry → ServerMoves h event entry old new → ServerTrusts s w h event entry
     → (v : World) × GoesOn Server s w (AtServer event entry) v old new × IsAsClaimed n s w v × ServerRuns s v (server.Then h event entry) new × ClientStays s w v
 
 -- the same for a kept client (RFC 8613, B.1.1)
@@ -77,7 +77,7 @@ abbrev pub ServerStartsInWorld : Type 0
 ServerStartsInWorld = (n : ℕ) (s : SecurityContext) (w : World) (start : Start) (size : WindowSize) (loaded floor : ℕ) → IsKept n s w → HasSavedFirst s w
     → IsStart start loaded → Allowed (Load loaded) (nothing_drawn floor) → (numbers Server s w).floor ≤ loaded
     → IsAsClaimed n s w (server_started start size w) × ClientStays s w (server_started start size w)
-    × ServerRuns s (server_started start size w) (server.Then server.Begin (server.Add s start size) (server.Added 0)) (started start loaded (nothing_drawn floor))
+    × ServerRuns s (server_started start size w) (server.Then server.Begin (server.Add s start size 1) (server.Added 0)) (started start loaded (nothing_drawn floor))
 
 -- the same for a client (RFC 8613, B.1.1)
 abbrev pub ClientStartsInWorld : Type 0

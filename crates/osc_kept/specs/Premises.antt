@@ -26,18 +26,19 @@ AtEach P (Then w event) = AtEach P w × P w event
 
 -- ---- what both ends do: the contracts of Client, Server and the kept types say so
 
--- the event isn't an Add: a server has the one context with which it starts (own rule)
-abbrev pub IsNoAdd : server.Event → Type 0
-IsNoAdd (server.Add context start size) = ⊥
-IsNoAdd event = Unit {0}
+-- the event brings no context: a server has the one context with which it starts, and one that takes its place begins a world of its own (own rule)
+abbrev pub BringsNoContext : server.Event → Type 0
+BringsNoContext (server.Add context start size places) = ⊥
+BringsNoContext (server.Replace context by start size) = ⊥
+BringsNoContext event = Unit {0}
 
 -- a running end answers by its tables; a context that starts is usable; a server has one context, and replies by tickets that deliveries gave
 -- (RFC 8613, 8.1 to 8.4)
 abbrev pub Answers : ℕ → SecurityContext → World → Event → Type 0
-Answers n s w (ServerStarts start size) = ServerAnswer server.Begin (server.Add s start size) (server.Added 0)
+Answers n s w (ServerStarts start size) = ServerAnswer server.Begin (server.Add s start size 1) (server.Added 0)
 Answers n s w (AtClient event entry) = (h : client.History) × (client_history s w ≡ Some h) × ClientAnswer n h event entry
 Answers n s w (AtServer event entry) = (h : server.History) × (server_history s w ≡ Some h) × ServerAnswer h event entry
-    × IsNoAdd event × TakesTickets (server.Then h event entry)
+    × BringsNoContext event × TakesTickets (server.Then h event entry)
 Answers n s w event = Unit {0}
 
 -- ---- I: whoever keeps the keys sees to it, and so does the cipher

@@ -56,7 +56,7 @@ client_history s (Then w event) = client_history s w
 -- the history of the running server (own rule)
 abbrev pub server_history : SecurityContext → World → Option server.History
 server_history s Begin = None
-server_history s (Then w (ServerStarts start size)) = Some (server.Then server.Begin (server.Add s start size) (server.Added 0))
+server_history s (Then w (ServerStarts start size)) = Some (server.Then server.Begin (server.Add s start size 1) (server.Added 0))
 server_history s (Then w (AtServer event entry)) = option_map (λ h. server.Then h event entry) (server_history s w)
 server_history s (Then w event) = server_history s w
 

@@ -16,7 +16,7 @@ pub use laws::{
     kept_ends_begin, kept_ends_go_on, kept_ends_in_world, kept_runs_in_world, premises_are_needed,
     premises_can_be_met, received_by_saving, shares_stay_like,
 };
-pub use osc_kept_ends::{KeptClient, KeptError, KeptPeer, KeptServer};
+pub use osc_kept_ends::{KeptClient, KeptError, KeptPeer, KeptServer, ReplaceRefusal};
 pub use osc_kept_runs::{
     KeptClientEntry, KeptClientEvent, KeptServerEntry, KeptServerEvent, run_kept_client,
     run_kept_client_on, run_kept_server, run_kept_server_on,

@@ -10,7 +10,7 @@ use Rattle.osc_window.specs.declared.gate.Gate.{Gate}
 use Rattle.osc_window.specs.declared.window_size.WindowSize.{WindowSize}
 use Rattle.osc_client.specs.declared.client.Client.{Client}
 use Rattle.osc_client.specs.ClientHistory as client
-use Rattle.osc_endpoint.specs.declared.server.Server.{Server}
+use Rattle.osc_endpoint.specs.declared.server.ServerOf.{ServerOf}
 use Rattle.osc_endpoint.specs.ServerAnswer.{ServerAnswer}
 use Rattle.osc_life.specs.declared.decision.Decided.{Decided}
 use Rattle.osc_life.specs.declared.decision.Decision.{Decision}
@@ -37,11 +37,12 @@ use Rattle.osc_kept_ends.specs.Peering.{ClientIsBehind, DeliversBelow, IsKeptOn,
 use Rattle.osc_kept_ends.specs.Sharing.{IsRestingStart}
 use Rattle.osc_kept_ends.specs.TakingBack.{IsDelivery, IsGateOf, IsTakenBack}
 use Rattle.osc_kept_ends.specs.Views.{IsLastDrawn, IsUsedUp, own_at}
-use Rattle.osc_kept_ends.proofs.ServerSteps.{only_first}
+use Rattle.osc_endpoint.specs.Agrees.{Agrees}
+use Rattle.osc_kept_ends.proofs.ServerSteps.{only_first, succeeded_next}
 
 -- ---- behind a number
 
-pub server_still : (s : Server) (h : server.History) (next more : ℕ) → next ≤ more → ServerIsBehind s next h → ServerIsBehind s more h
+pub server_still : (s : ServerOf 1) (h : server.History) (next more : ℕ) → next ≤ more → ServerIsBehind s next h → ServerIsBehind s more h
 server_still s h next more less b =
     let least = b.least in
     record { agrees = b.agrees; one = b.one; reached = b.reached; reached_is = b.reached_is; least = omega (arith, least, less) }
@@ -50,20 +51,20 @@ pub client_still : {N : ℕ} (c : Client N) (k : client.History) (next more : �
 client_still c k next more less b = let least = b.least in record { agrees = b.agrees; least = omega (arith, least, less) }
 
 -- behind a number that is the same
-pub server_at : (s : Server) (h : server.History) (next more : ℕ) → more ≡ next → ServerIsBehind s next h → ServerIsBehind s more h
+pub server_at : (s : ServerOf 1) (h : server.History) (next more : ℕ) → more ≡ next → ServerIsBehind s next h → ServerIsBehind s more h
 server_at s h next more same b = server_still s h next more (omega (arith, same)) b
 
 pub client_at : {N : ℕ} (c : Client N) (k : client.History) (next more : ℕ) → more ≡ next → ClientIsBehind c next k → ClientIsBehind c more k
 client_at c k next more same b = client_still c k next more (omega (arith, same)) b
 
 -- kept at a number that is the same
-pub kept_at : (s : Server) (h : server.History) (next more : ℕ) → more ≡ next → serving.IsKept s next h → serving.IsKept s more h
+pub kept_at : (s : ServerOf 1) (h : server.History) (next more : ℕ) → more ≡ next → serving.IsKept s next h → serving.IsKept s more h
 kept_at s h next more same k = record { agrees = k.agrees; one = k.one; next_is = k.next_is ∙ ap Some (sym same) }
 
 pub asked_at : {N : ℕ} (c : Client N) (k : client.History) (next more : ℕ) → more ≡ next → asking.IsKept c next k → asking.IsKept c more k
 asked_at c k next more same i = record { agrees = i.agrees; next_is = i.next_is ∙ sym same }
 
-pub kept_behind : (s : Server) (h : server.History) (next : ℕ) → serving.IsKept s next h → ServerIsBehind s next h
+pub kept_behind : (s : ServerOf 1) (h : server.History) (next : ℕ) → serving.IsKept s next h → ServerIsBehind s next h
 kept_behind s h next k = record { agrees = k.agrees; one = k.one; reached = next; reached_is = k.next_is; least = omega arith }
 
 pub asked_behind : {N : ℕ} (c : Client N) (k : client.History) (next : ℕ) → asking.IsKept c next k → ClientIsBehind c next k
@@ -96,7 +97,7 @@ never_refused (Some l) count reached TooFewLeft there fits row =
 -- ---- a delivery that is taken back
 
 -- the context of a delivery is the one that is there
-pub delivers_first : (s : Server) (g : server.History) (next now mid : ℕ) (echo d reply : List ℕ) (received : _) (t : server.TicketValues) → serving.IsKept s next g
+pub delivers_first : (s : ServerOf 1) (g : server.History) (next now mid : ℕ) (echo d reply : List ℕ) (received : _) (t : server.TicketValues) → serving.IsKept s next g
     → ServerAnswer g (server.Datagram now echo mid d) (server.Took (server.Deliver received t) reply) → t.context ≡ 0
 delivers_first s g next now mid echo d reply received t k row =
     ap (λ (v : server.TicketValues). v.context) row.0.4.2 ∙ only_first s g row.0.0 row.0.2 k.agrees k.one row.0.3.life_is
@@ -129,7 +130,7 @@ upcoming_on mid new (inl same) = ap upcoming same
 upcoming_on mid new (inr saved) = ap upcoming saved
 
 -- a delivery that was taken back moved the clock alone
-pub waited : (s old new : Server) (gate : Option Gate) (g : server.History) (next more now : ℕ) (fresh : Fresh) (d : List ℕ) (result : Decided) (left reply : List ℕ) (before mid : Own)
+pub waited : (s old new : ServerOf 1) (gate : Option Gate) (g : server.History) (next more now : ℕ) (fresh : Fresh) (d : List ℕ) (result : Decided) (left reply : List ℕ) (before mid : Own)
     → IsTakenBack result.decision gate old new → serving.IsKept s next g → IsGateOf gate g → serving.KeptDecides g now fresh d result left reply before mid old → next ≤ more
     → ServerIsBehind new more (server.Then g (server.Advance now) server.Advanced)
 waited s old new gate g next more now fresh d result left reply before mid back k gates t less = record {
@@ -141,12 +142,12 @@ waited s old new gate g next more now fresh d result left reply before mid back 
 }
 
 -- whether its number could be kept or not, the server stays behind
-pub kept_or_back : {E : Type 0} (r : Result Unit E) (s old new : Server) (gate : Option Gate) (g : server.History) (next more now : ℕ) (fresh : Fresh) (d : List ℕ) (result : Decided) (left reply : List ℕ)
+pub kept_or_back : {E : Type 0} (r : Result Unit E) (s old new : ServerOf 1) (gate : Option Gate) (g : server.History) (next more now : ℕ) (fresh : Fresh) (d : List ℕ) (result : Decided) (left reply : List ℕ)
     (before mid : Own) → (IsOk r → new ≡ old) → (IsErr r → IsTakenBack result.decision gate old new) → serving.IsKept s next g → IsGateOf gate g
     → serving.KeptDecides g now fresh d result left reply before mid old → next ≤ more → upcoming mid ≤ more → (h : server.History) × ServerIsBehind new more h
 kept_or_back (Ok x) s old new gate g next more now fresh d result left reply before mid same back k gates t less least =
     let h = server.Then g (server.Datagram now fresh.echo fresh.mid d) (server.Took t.answer reply) in
-    (h, server_still new h (upcoming mid) more least (subst (λ (z : Server). ServerIsBehind z (upcoming mid) h) (sym (same refl)) (kept_behind old h (upcoming mid) t.step.kept)))
+    (h, server_still new h (upcoming mid) more least (subst (λ (z : ServerOf 1). ServerIsBehind z (upcoming mid) h) (sym (same refl)) (kept_behind old h (upcoming mid) t.step.kept)))
 kept_or_back (Err e) s old new gate g next more now fresh d result left reply before mid same back k gates t less least =
     (server.Then g (server.Advance now) server.Advanced, waited s old new gate g next more now fresh d result left reply before mid (back refl) k gates t less)
 
@@ -197,8 +198,14 @@ born_at c ahead (starts.Restarted first) size sender received is = is.0
 born_at c ahead (starts.Received first highest) size sender received is = is.0
 born_at c ahead (starts.Reserved first highest kept) size sender received is = is.0
 
+-- another context in the place of the one that the peer had
+pub replaced : (s t : ServerOf 1) (h : server.History) (c : SecurityContext) (start : Start) (size : WindowSize) (old next : ℕ) → ServerIsBehind s old h
+    → Agrees t (server.Then h (server.Replace 0 c start size) server.Replaced) → next ≡ (born c start size).first
+    → serving.IsKept t next (server.Then h (server.Replace 0 c start size) server.Replaced)
+replaced s t h c start size old next b a first = record { agrees = a; one = b.one; next_is = succeeded_next (server.life h 0) c start size b.reached next b.reached_is first }
+
 -- the first context of a server is added
-pub never_added : (s : SecurityContext) (start : Start) (size : WindowSize) (e : AddError) → ServerAnswer server.Begin (server.Add s start size) (server.NotAdded e) → ⊥
+pub never_added : (s : SecurityContext) (start : Start) (size : WindowSize) (e : AddError) → ServerAnswer server.Begin (server.Add s start size 1) (server.NotAdded e) → ⊥
 never_added s start size Full row = omega (arith, row.1)
 never_added s start size SameLookup row = let none : None ≡ Some row.1.1.1 = row.1.1.2 in cc
 

@@ -9,7 +9,7 @@ use Rattle.osc_context.specs.SecurityContext.{SecurityContext}
 use Rattle.osc_window.specs.declared.window_size.WindowSize.{WindowSize}
 use Rattle.osc_life.specs.declared.start.Start.{Start}
 use Rattle.osc_life.specs.declared.start.Start.TheVariants as starts
-use Rattle.osc_endpoint.specs.declared.server.Server.{Server}
+use Rattle.osc_endpoint.specs.declared.server.ServerOf.{ServerOf}
 use Rattle.osc_life.specs.declared.slot.Slot.{Slot}
 use Rattle.osc_life.specs.declared.server_error.ReplyError.{ReplyError}
 use Rattle.osc_life.specs.declared.server_error.RestartError.{RestartError}
@@ -18,10 +18,10 @@ use Rattle.osc_life.specs.declared.decision.Decision.{Decision}
 use Rattle.osc_life.specs.declared.decision.Decision.TheVariants as decisions
 use Rattle.osc_endpoint.specs.Agrees.{Agrees, PlaceAgrees}
 use Rattle.osc_life.specs.Deciding.{Decides}
-use Rattle.osc_life.specs.Life.{Life, Mark, Delivered, Spoiled, Challenged, Answered, PassedOver, HasOwn, born, marked, next_own, is_open_life, renewed}
+use Rattle.osc_life.specs.Life.{Life, Mark, Delivered, Spoiled, Challenged, Answered, PassedOver, HasOwn, born, marked, next_own, is_open_life, renewed, succeeding}
 use Rattle.osc_endpoint.specs.ServerAnswer.{ServerAnswer}
 use Rattle.osc_life.specs.LifeAnswer.{LifeRestart}
-use Rattle.osc_life.specs.ServerHistory.{History, Begin, Then, Add, Added, Answer, TicketValues, Datagram, Notify, Reply, Advance, Took, Replied, NotReplied, Restart, Restarted, NotRestarted, Advanced, Malformed, NotRequest, Plain, Undecodable, NoContext, Replay, BadTag, BadInner, Challenge, SequenceExhausted, Deliver, added, life, mark_at, reply_mark_at}
+use Rattle.osc_life.specs.ServerHistory.{History, Begin, Then, Add, Added, Answer, TicketValues, Datagram, Notify, Reply, Advance, Took, Replied, NotReplied, Replace, Replaced, Restart, Restarted, NotRestarted, Advanced, Malformed, NotRequest, Plain, Undecodable, NoContext, Replay, BadTag, BadInner, Challenge, SequenceExhausted, Deliver, added, life, mark_at, reply_mark_at}
 use Rattle.osc_kept_ends.specs.KeptServing.{IsKept, KeptStep, uses}
 use Rattle.osc_kept_ends.specs.Numbering.{Own, Draws, Goes, Steps, Use, after, upcoming, use_of}
 use Rattle.osc_kept_ends.proofs.Drawing.{in_hand, number_in_hand, upcoming_stays}
@@ -98,7 +98,7 @@ slot_of None l h = absurd h
 slot_of (Some s) l h = (s, refl)
 
 -- the context that is there has index 0
-pub only_first : (s : Server) (h : History) (i : ℕ) (of : Life) → Agrees s h → added h ≡ 1 → life h i ≡ Some of → i ≡ 0
+pub only_first : (s : ServerOf 1) (h : History) (i : ℕ) (of : Life) → Agrees s h → added h ≡ 1 → life h i ≡ Some of → i ≡ 0
 only_first s h i of a one is =
     let (p, at) = slot_of (slice_get s.slots.items i) of (subst (λ o. PlaceAgrees (slice_get s.slots.items i) o) is (a.places.at i)) in
     let within : i < length s.slots.items = slice_get_within s.slots.items i p at in
@@ -110,7 +110,7 @@ life_next o of next is e = ap (λ (x : Option ℕ). unwrap_or x next) (sym (ap (
 
 -- ---- datagrams
 
-pub took_unsealed : (s t : Server) (h : History) (now : ℕ) (echo : List ℕ) (m : ℕ) (d : List ℕ) (answer : Answer) (reply : List ℕ) (old new : Own)
+pub took_unsealed : (s t : ServerOf 1) (h : History) (now : ℕ) (echo : List ℕ) (m : ℕ) (d : List ℕ) (answer : Answer) (reply : List ℕ) (old new : Own)
     → IsKept s (upcoming old) h → ServerAnswer h (Datagram now echo m d) (Took answer reply) → Agrees t (Then h (Datagram now echo m d) (Took answer reply))
     → IsNoChallenge answer → Draws (not (is_open_life (life h 0))) old new
     → KeptStep h (Datagram now echo m d) (Took answer reply) old new t
@@ -127,7 +127,7 @@ took_unsealed s t h now echo m d answer reply old new k row a is drawn =
 challenge_spent : (i n : ℕ) (given : List ℕ) (issued : ℕ) → i ≡ 0 → spends (mark_at 0 (Challenge i n given issued)) ≡ 1
 challenge_spent i n given issued e = subst (λ (k : ℕ). spends (mark_at 0 (Challenge k n given issued)) ≡ 1) (sym e) refl
 
-pub took_challenge : (s t : Server) (h : History) (now : ℕ) (echo : List ℕ) (m : ℕ) (d : List ℕ) (i n : ℕ) (given : List ℕ) (issued : ℕ) (reply : List ℕ) (old mid new : Own)
+pub took_challenge : (s t : ServerOf 1) (h : History) (now : ℕ) (echo : List ℕ) (m : ℕ) (d : List ℕ) (i n : ℕ) (given : List ℕ) (issued : ℕ) (reply : List ℕ) (old mid new : Own)
     → IsKept s (upcoming old) h → ServerAnswer h (Datagram now echo m d) (Took (Challenge i n given issued) reply)
     → Agrees t (Then h (Datagram now echo m d) (Took (Challenge i n given issued) reply))
     → Draws (not (is_open_life (life h 0))) old mid → ((k : ℕ) → mid.hand ≡ Some k → k + 1 ≡ mid.next) → ((k : ℕ) → new ≡ after (Use k) mid)
@@ -153,7 +153,7 @@ took_challenge s t h now echo m d i n given issued reply old mid new k row a dra
     }
 
 -- the clock alone moves
-pub moved : (s t : Server) (h : History) (now next : ℕ) → IsKept s next h → Agrees t (Then h (Advance now) Advanced) → IsKept t next (Then h (Advance now) Advanced)
+pub moved : (s t : ServerOf 1) (h : History) (now next : ℕ) → IsKept s next h → Agrees t (Then h (Advance now) Advanced) → IsKept t next (Then h (Advance now) Advanced)
 moved s t h now next k a = record { agrees = a; one = k.one; next_is = k.next_is }
 
 -- ---- replies and notifications
@@ -169,7 +169,7 @@ is_zero i e = subst (λ (k : ℕ). (0 == k) ≡ true) (sym e) refl
 abbrev UsesOwn : History → TicketValues → Own → Own → Type 0
 UsesOwn h v old new = (option_map next_own (option_map (marked (reply_mark_at 0 v true)) (life h 0)) ≡ Some (upcoming new)) × Steps true (option_map next_own (life h v.context)) old new
 
-uses_own : (s : Server) (h : History) (v : TicketValues) (of : Life) (old mid new : Own) → IsKept s (upcoming old) h → life h v.context ≡ Some of → HasOwn of
+uses_own : (s : ServerOf 1) (h : History) (v : TicketValues) (of : Life) (old mid new : Own) → IsKept s (upcoming old) h → life h v.context ≡ Some of → HasOwn of
     → Draws true old mid → ((k : ℕ) → mid.hand ≡ Some k → k + 1 ≡ mid.next) → ((k : ℕ) → new ≡ after (Use k) mid) → UsesOwn h v old new
 uses_own s h v of old mid new k present has drawn last used =
     let first : v.context ≡ 0 = only_first s h v.context of k.agrees k.one present in
@@ -191,7 +191,7 @@ not_used h v m p room e true = refl
 not_used h v m p room e false = refl
 
 -- a reply that is refused
-pub reply_refused : (s t : Server) (h : History) (v : TicketValues) (own : Bool) (m : ℕ) (p : Parts) (room : ℕ) (e : ReplyError) (old new : Own)
+pub reply_refused : (s t : ServerOf 1) (h : History) (v : TicketValues) (own : Bool) (m : ℕ) (p : Parts) (room : ℕ) (e : ReplyError) (old new : Own)
     → IsKept s (upcoming old) h → ServerAnswer h (Reply v own m p room) (NotReplied e) → Agrees t (Then h (Reply v own m p room) (NotReplied e))
     → Draws own old new → KeptStep h (Reply v own m p room) (NotReplied e) old new t
 reply_refused s t h v own m p room e old new k row a drawn =
@@ -203,7 +203,7 @@ reply_refused s t h v own m p room e old new k row a drawn =
     }
 
 -- a notification that is refused
-pub notify_refused : (s t : Server) (h : History) (v : TicketValues) (p : Parts) (room : ℕ) (e : ReplyError) (old new : Own) → IsKept s (upcoming old) h
+pub notify_refused : (s t : ServerOf 1) (h : History) (v : TicketValues) (p : Parts) (room : ℕ) (e : ReplyError) (old new : Own) → IsKept s (upcoming old) h
     → ServerAnswer h (Notify v p room) (NotReplied e) → Agrees t (Then h (Notify v p room) (NotReplied e)) → Draws true old new → KeptStep h (Notify v p room) (NotReplied e) old new t
 notify_refused s t h v p room e old new k row a drawn =
     record {
@@ -213,7 +213,7 @@ notify_refused s t h v p room e old new k row a drawn =
     }
 
 -- a reply with no Partial IV of its own
-pub reply_shared : (s t : Server) (h : History) (v : TicketValues) (m : ℕ) (p : Parts) (room : ℕ) (bytes : List ℕ) (own : Own)
+pub reply_shared : (s t : ServerOf 1) (h : History) (v : TicketValues) (m : ℕ) (p : Parts) (room : ℕ) (bytes : List ℕ) (own : Own)
     → IsKept s (upcoming own) h → ServerAnswer h (Reply v false m p room) (Replied bytes) → Agrees t (Then h (Reply v false m p room) (Replied bytes))
     → KeptStep h (Reply v false m p room) (Replied bytes) own own t
 reply_shared s t h v m p room bytes own k row a =
@@ -224,7 +224,7 @@ reply_shared s t h v m p room bytes own k row a =
     }
 
 -- a reply with a Partial IV of its own
-pub reply_own : (s t : Server) (h : History) (v : TicketValues) (m : ℕ) (p : Parts) (room : ℕ) (bytes : List ℕ) (old mid new : Own)
+pub reply_own : (s t : ServerOf 1) (h : History) (v : TicketValues) (m : ℕ) (p : Parts) (room : ℕ) (bytes : List ℕ) (old mid new : Own)
     → IsKept s (upcoming old) h → ServerAnswer h (Reply v true m p room) (Replied bytes) → Agrees t (Then h (Reply v true m p room) (Replied bytes))
     → Draws true old mid → ((k : ℕ) → mid.hand ≡ Some k → k + 1 ≡ mid.next) → ((k : ℕ) → new ≡ after (Use k) mid)
     → KeptStep h (Reply v true m p room) (Replied bytes) old new t
@@ -234,7 +234,7 @@ reply_own s t h v m p room bytes old mid new k row a drawn last used =
     record { row = row; kept = record { agrees = a; one = k.one; next_is = next }; numbers = steps }
 
 -- a notification
-pub notify_own : (s t : Server) (h : History) (v : TicketValues) (p : Parts) (room : ℕ) (bytes : List ℕ) (old mid new : Own)
+pub notify_own : (s t : ServerOf 1) (h : History) (v : TicketValues) (p : Parts) (room : ℕ) (bytes : List ℕ) (old mid new : Own)
     → IsKept s (upcoming old) h → ServerAnswer h (Notify v p room) (Replied bytes) → Agrees t (Then h (Notify v p room) (Replied bytes))
     → Draws true old mid → ((k : ℕ) → mid.hand ≡ Some k → k + 1 ≡ mid.next) → ((k : ℕ) → new ≡ after (Use k) mid)
     → KeptStep h (Notify v p room) (Replied bytes) old new t
@@ -244,14 +244,14 @@ notify_own s t h v p room bytes old mid new k row a drawn last used =
     record { row = row; kept = record { agrees = a; one = k.one; next_is = next }; numbers = steps }
 
 -- a reply that is sealed, with a Partial IV of its own in hand or without one
-pub reply_with : (s t : Server) (h : History) (v : TicketValues) (own : Bool) (m : ℕ) (p : Parts) (room : ℕ) (bytes : List ℕ) (old mid new : Own) → own ≡ true
+pub reply_with : (s t : ServerOf 1) (h : History) (v : TicketValues) (own : Bool) (m : ℕ) (p : Parts) (room : ℕ) (bytes : List ℕ) (old mid new : Own) → own ≡ true
     → IsKept s (upcoming old) h → ServerAnswer h (Reply v own m p room) (Replied bytes) → Agrees t (Then h (Reply v own m p room) (Replied bytes))
     → Draws own old mid → ((k : ℕ) → mid.hand ≡ Some k → k + 1 ≡ mid.next) → ((k : ℕ) → new ≡ after (Use k) mid)
     → KeptStep h (Reply v own m p room) (Replied bytes) old new t
 reply_with s t h v true m p room bytes old mid new is k row a drawn last used = reply_own s t h v m p room bytes old mid new k row a drawn last used
 reply_with s t h v false m p room bytes old mid new is k row a drawn last used = cc
 
-pub reply_without : (s t : Server) (h : History) (v : TicketValues) (own : Bool) (m : ℕ) (p : Parts) (room : ℕ) (bytes : List ℕ) (old new : Own) → own ≡ false
+pub reply_without : (s t : ServerOf 1) (h : History) (v : TicketValues) (own : Bool) (m : ℕ) (p : Parts) (room : ℕ) (bytes : List ℕ) (old new : Own) → own ≡ false
     → IsKept s (upcoming old) h → ServerAnswer h (Reply v own m p room) (Replied bytes) → Agrees t (Then h (Reply v own m p room) (Replied bytes))
     → Draws own old new → KeptStep h (Reply v own m p room) (Replied bytes) old new t
 reply_without s t h v true m p room bytes old new is k row a drawn = cc
@@ -267,10 +267,10 @@ born_next c (starts.Received first highest) size = omega arith
 born_next c (starts.Reserved first highest ahead) size = omega arith
 
 -- a server with the context that was added
-pub added_alone : (s : Server) (c : SecurityContext) (start : Start) (size : WindowSize) (index next : ℕ) → Agrees s (Then Begin (Add c start size) (Added index)) → index ≡ 0
-    → next ≡ (born c start size).first → IsKept s next (Then Begin (Add c start size) (Added 0))
+pub added_alone : (s : ServerOf 1) (c : SecurityContext) (start : Start) (size : WindowSize) (index next : ℕ) → Agrees s (Then Begin (Add c start size 1) (Added index)) → index ≡ 0
+    → next ≡ (born c start size).first → IsKept s next (Then Begin (Add c start size 1) (Added 0))
 added_alone s c start size index next a first is = record {
-  agrees = subst (λ i. Agrees s (Then Begin (Add c start size) (Added i))) first a;
+  agrees = subst (λ i. Agrees s (Then Begin (Add c start size 1) (Added i))) first a;
   one = refl;
   next_is = ap Some (born_next c start size ∙ sym is);
 }
@@ -280,8 +280,18 @@ renewed_next None old loaded is = absurd (let e : None ≡ Some old = is in cc)
 renewed_next (Some l) old loaded is = ap Some (omega arith)
 
 -- a restart of the one context, at a number that was loaded
-pub restarted : (s t : Server) (h : History) (old loaded : ℕ) → IsKept s old h → Agrees t (Then h (Restart 0 loaded) Restarted) → IsKept t loaded (Then h (Restart 0 loaded) Restarted)
+pub restarted : (s t : ServerOf 1) (h : History) (old loaded : ℕ) → IsKept s old h → Agrees t (Then h (Restart 0 loaded) Restarted) → IsKept t loaded (Then h (Restart 0 loaded) Restarted)
 restarted s t h old loaded k a = record { agrees = a; one = k.one; next_is = renewed_next (life h 0) old loaded k.next_is }
+
+pub succeeded_next : (o : Option Life) (c : SecurityContext) (start : Start) (size : WindowSize) (old next : ℕ) → option_map next_own o ≡ Some old → next ≡ (born c start size).first
+    → option_map next_own (option_map (succeeding c start size) o) ≡ Some next
+succeeded_next None c start size old next is first = absurd (let e : None ≡ Some old = is in cc)
+succeeded_next (Some l) c start size old next is first = ap Some (born_next c start size ∙ sym first)
+
+-- another context in the place of the one, at a number that was loaded
+pub replaced : (s t : ServerOf 1) (h : History) (c : SecurityContext) (start : Start) (size : WindowSize) (old next : ℕ) → IsKept s old h
+    → Agrees t (Then h (Replace 0 c start size) Replaced) → next ≡ (born c start size).first → IsKept t next (Then h (Replace 0 c start size) Replaced)
+replaced s t h c start size old next k a first = record { agrees = a; one = k.one; next_is = succeeded_next (life h 0) c start size old next k.next_is first }
 
 -- ---- what was decided
 
@@ -306,7 +316,7 @@ other_decided decision new (Challenge i n given moment) other d =
     other echo issued is
 other_decided decision new answer other d = tt
 
-pub took_sealed : (s t : Server) (h : History) (now : ℕ) (echo : List ℕ) (m : ℕ) (d : List ℕ) (answer : Answer) (reply : List ℕ) (old mid new : Own)
+pub took_sealed : (s t : ServerOf 1) (h : History) (now : ℕ) (echo : List ℕ) (m : ℕ) (d : List ℕ) (answer : Answer) (reply : List ℕ) (old mid new : Own)
     → IsChallenge answer → IsKept s (upcoming old) h → ServerAnswer h (Datagram now echo m d) (Took answer reply) → Agrees t (Then h (Datagram now echo m d) (Took answer reply))
     → Draws (not (is_open_life (life h 0))) old mid → ((k : ℕ) → mid.hand ≡ Some k → k + 1 ≡ mid.next) → ((k : ℕ) → new ≡ after (Use k) mid)
     → KeptStep h (Datagram now echo m d) (Took answer reply) old new t
@@ -329,12 +339,12 @@ used_upcoming o of old new there has (mid, drawn, goes) =
     subst (λ n. n < 2 ^ 40) (number_in_hand old mid (next_own of) drawn used.0) has
 
 -- a reply with a Partial IV of its own has a number that is left
-pub reply_left : (h : History) (t : TicketValues) (own : Bool) (mid room : ℕ) (p : Parts) (text : List ℕ) (old new : Own) (s : Server)
+pub reply_left : (h : History) (t : TicketValues) (own : Bool) (mid room : ℕ) (p : Parts) (text : List ℕ) (old new : Own) (s : ServerOf 1)
     → KeptStep h (Reply t own mid p room) (Replied text) old new s → own ≡ true → upcoming old < 2 ^ 40
 reply_left h t true mid room p text old new s step asked = used_upcoming (life h t.context) step.row.0 old new step.row.1.0 (step.row.2.0 refl) step.numbers
 reply_left h t false mid room p text old new s step asked = absurd cc
 
 -- so has a notification
-pub notification_left : (h : History) (t : TicketValues) (room : ℕ) (p : Parts) (text : List ℕ) (old new : Own) (s : Server)
+pub notification_left : (h : History) (t : TicketValues) (room : ℕ) (p : Parts) (text : List ℕ) (old new : Own) (s : ServerOf 1)
     → KeptStep h (Notify t p room) (Replied text) old new s → upcoming old < 2 ^ 40
 notification_left h t room p text old new s step = used_upcoming (life h t.context) step.row.1.0 old new step.row.1.1.0 step.row.1.2.1 step.numbers

@@ -5,7 +5,7 @@ use Rattle.std.specs.Option.{option_map}
 use Rattle.osc_context.specs.Views.{number_of}
 use Rattle.osc_life.specs.declared.decision.Decided.{Decided}
 use Rattle.osc_life.specs.declared.outcome.Outcome.{Outcome}
-use Rattle.osc_endpoint.specs.declared.server.Server.{Server}
+use Rattle.osc_endpoint.specs.declared.server.ServerOf.{ServerOf}
 use Rattle.osc_life.specs.declared.start.Fresh.{Fresh}
 use Rattle.osc_life.specs.declared.start.Start.{Start}
 use Rattle.osc_life.specs.declared.start.Start.TheVariants as starts
@@ -33,25 +33,25 @@ uses h (Notify ticket plain room) (Replied bytes) = option_map next_own (life h 
 uses h event entry = None
 
 -- the server is as its history says, has one context, and seals next with this number (RFC 8613, 7.2.1)
-pub record IsKept (s : Server) (next : ℕ) (h : History) : Type 0 where
+pub record IsKept (s : ServerOf 1) (next : ℕ) (h : History) : Type 0 where
   pub agrees : Agrees s h
   pub one : added h ≡ 1
   pub next_is : option_map next_own (life h 0) ≡ Some next
 
 -- this is how the server answers the event; if it seals with its own Partial IV, it uses the one in hand, which was drawn before (RFC 8613, 8.2, 8.3 and B.1.1)
-pub record KeptStep (h : History) (event : Event) (entry : Entry) (old new : Own) (s : Server) : Type 0 where
+pub record KeptStep (h : History) (event : Event) (entry : Entry) (old new : Own) (s : ServerOf 1) : Type 0 where
   pub row : ServerAnswer h event entry
   pub kept : IsKept s (upcoming new) (Then h event entry)
   pub numbers : Steps (draws h event) (uses h event entry) old new
 
 -- what was decided about a datagram (RFC 8613, 8.2)
-pub record KeptDecides (h : History) (now : ℕ) (fresh : Fresh) (d : List ℕ) (result : Decided) (left reply : List ℕ) (old new : Own) (s : Server) : Type 0 where
+pub record KeptDecides (h : History) (now : ℕ) (fresh : Fresh) (d : List ℕ) (result : Decided) (left reply : List ℕ) (old new : Own) (s : ServerOf 1) : Type 0 where
   pub answer : Answer
   pub decides : Decides result.decision left answer
   pub step : KeptStep h (Datagram now fresh.echo fresh.mid d) (Took answer reply) old new s
 
 -- what became of a datagram (RFC 8613, 8.2)
-pub record KeptTakes (h : History) (now : ℕ) (fresh : Fresh) (d : List ℕ) (outcome : Outcome) (reply : List ℕ) (old new : Own) (s : Server) : Type 0 where
+pub record KeptTakes (h : History) (now : ℕ) (fresh : Fresh) (d : List ℕ) (outcome : Outcome) (reply : List ℕ) (old new : Own) (s : ServerOf 1) : Type 0 where
   pub answer : Answer
   pub shows : Shows outcome answer
   pub step : KeptStep h (Datagram now fresh.echo fresh.mid d) (Took answer reply) old new s

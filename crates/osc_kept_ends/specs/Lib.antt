@@ -2,6 +2,7 @@
 pub mod Numbering
 pub mod EchoNumber
 pub mod Refusals
+pub mod Replacing
 pub mod KeptServing
 pub mod KeptTaking
 pub mod KeptAsking

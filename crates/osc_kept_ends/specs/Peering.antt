@@ -8,7 +8,7 @@ use Rattle.osc_client.specs.declared.client.Client.{Client}
 use Rattle.osc_client.specs.Agrees.{ClientAgrees}
 use Rattle.osc_client.specs.ClientAnswer.{ClientAnswer}
 use Rattle.osc_client.specs.ClientHistory as client
-use Rattle.osc_endpoint.specs.declared.server.Server.{Server}
+use Rattle.osc_endpoint.specs.declared.server.ServerOf.{ServerOf}
 use Rattle.osc_endpoint.specs.Agrees.{Agrees}
 use Rattle.osc_endpoint.specs.ServerAnswer.{ServerAnswer}
 use Rattle.osc_life.specs.declared.decision.Decided.{Decided}
@@ -27,7 +27,7 @@ use Rattle.osc_kept_ends.specs.KeptServing as serving
 use Rattle.osc_kept_ends.specs.Numbering.{Own, Draws, upcoming}
 
 -- the server has the one context, and every number that it used or passed over is below this one (RFC 8613, 7.2.1)
-pub record ServerIsBehind (s : Server) (next : ℕ) (h : server.History) : Type 0 where
+pub record ServerIsBehind (s : ServerOf 1) (next : ℕ) (h : server.History) : Type 0 where
   pub agrees : Agrees s h
   pub one : server.added h ≡ 1
   pub reached : ℕ
@@ -56,11 +56,11 @@ abbrev pub IsKeptOn : Own → Own → Type 0
 IsKeptOn mid new = (new ≡ mid) ⊎ (new ≡ record mid { floor = mid.limit })
 
 -- the server passes over numbers, and then answers the event as a kept server does (RFC 8613, 8.2 and 8.3)
-abbrev pub PeerStep : server.History → server.Event → server.Entry → Own → Own → Server → Type 0
+abbrev pub PeerStep : server.History → server.Event → server.Entry → Own → Own → ServerOf 1 → Type 0
 PeerStep h event entry old new s = (g : server.History) × ServerPasses h g × serving.KeptStep g event entry old new s
 
 -- what was decided about a datagram, and the number that was kept if a request is delivered (RFC 8613, 7.4 and 8.2)
-pub record PeerDecides (h : server.History) (now : ℕ) (fresh : Fresh) (d : List ℕ) (result : Decided) (left reply : List ℕ) (old new : Own) (s : Server) : Type 0 where
+pub record PeerDecides (h : server.History) (now : ℕ) (fresh : Fresh) (d : List ℕ) (result : Decided) (left reply : List ℕ) (old new : Own) (s : ServerOf 1) : Type 0 where
   pub g : server.History
   pub passes : ServerPasses h g
   pub mid : Own
@@ -68,7 +68,7 @@ pub record PeerDecides (h : server.History) (now : ℕ) (fresh : Fresh) (d : Lis
   pub kept_on : IsKeptOn mid new
 
 -- what became of a datagram (RFC 8613, 7.4 and 8.2)
-pub record PeerTakes (h : server.History) (now : ℕ) (fresh : Fresh) (d : List ℕ) (outcome : Outcome) (reply : List ℕ) (old new : Own) (s : Server) : Type 0 where
+pub record PeerTakes (h : server.History) (now : ℕ) (fresh : Fresh) (d : List ℕ) (outcome : Outcome) (reply : List ℕ) (old new : Own) (s : ServerOf 1) : Type 0 where
   pub g : server.History
   pub passes : ServerPasses h g
   pub mid : Own
@@ -80,7 +80,7 @@ abbrev pub MayDraw : Own → Own → Type 0
 MayDraw old new = (new ≡ old) ⊎ Draws true old new
 
 -- a call whose record failed moves the clock alone; it may have passed over numbers, and drawn one, which is in hand still (RFC 8613, B.1.1)
-pub record ServerWaits (h : server.History) (now : ℕ) (old new : Own) (s : Server) : Type 0 where
+pub record ServerWaits (h : server.History) (now : ℕ) (old new : Own) (s : ServerOf 1) : Type 0 where
   pub g : server.History
   pub passes : (g ≡ h) ⊎ ServerPasses h g
   pub mid : Own

@@ -2,7 +2,7 @@
 -- history before the delivery, left is the datagram as it was left.
 use Rattle.std.specs.Prelude.{◌≡◌, ℕ, List, Option, Some}
 use Rattle.osc_window.specs.declared.gate.Gate.{Gate}
-use Rattle.osc_endpoint.specs.declared.server.Server.{Server}
+use Rattle.osc_endpoint.specs.declared.server.ServerOf.{ServerOf}
 use Rattle.osc_endpoint.specs.Agrees.{Agrees}
 use Rattle.osc_endpoint.specs.ServerAnswer.{ServerAnswer}
 use Rattle.osc_life.specs.declared.decision.Decision.{Decision}
@@ -18,8 +18,8 @@ abbrev pub IsGateOf : Option Gate → History → Type 0
 IsGateOf gate g = (l : Life) → life g 0 ≡ Some l → HasGate gate l
 
 -- whatever was answered by this decision, the server is as if the datagram had only moved its clock (own rule)
-abbrev pub IsTakenBack : Decision → Option Gate → Server → Server → Type 0
-IsTakenBack decision gate old new = (s : Server) (next : ℕ) (g : History) (now mid : ℕ) (echo d left reply : List ℕ) (answer : Answer) → IsKept s next g → IsGateOf gate g
+abbrev pub IsTakenBack : Decision → Option Gate → ServerOf 1 → ServerOf 1 → Type 0
+IsTakenBack decision gate old new = (s : ServerOf 1) (next : ℕ) (g : History) (now mid : ℕ) (echo d left reply : List ℕ) (answer : Answer) → IsKept s next g → IsGateOf gate g
     → ServerAnswer g (Datagram now echo mid d) (Took answer reply) → Decides decision left answer → Agrees old (Then g (Datagram now echo mid d) (Took answer reply))
     → Agrees new (Then g (Advance now) Advanced)
 

@@ -19,11 +19,11 @@ ghost use Rattle.osc_kept_ends.specs.Views.{IsLastDrawn, IsUsedUp, own_at};
 use crate::source::Source;
 use osc_coap::Message;
 use osc_context::{Keeper, KeeperError, Piv};
-use osc_endpoint::{Decided, Decision, Fresh, ReplyError, Server, Ticket};
+use osc_endpoint::{Decided, Decision, Fresh, ReplyError, ServerOf, Ticket};
 
 /// Draws a number for a challenge, if the gate is closed.
 pub(crate) fn draw_for_datagram<K: Keeper>(
-    server: &Server,
+    server: &ServerOf<1>,
     source: &mut Source<K>,
 ) -> Result<(), KeeperError>
     ensures drawn { IsOk result → (h : History) → Agrees server.now h → Draws (not (is_open_life (life h 0))) (own_in source.old) (own_in source.new) }
@@ -64,7 +64,7 @@ pub(crate) fn draw_for_reply<K: Keeper>(
 
 /// Decides the answer to a datagram, after the draw for it. A challenge uses the number in hand.
 pub(crate) fn decide_drawn(
-    server: &mut Server,
+    server: &mut ServerOf<1>,
     in_hand: &mut Option<Piv>,
     now: u64,
     fresh: Fresh,
@@ -90,7 +90,7 @@ pub(crate) fn decide_drawn(
 
 /// Seals a reply, after the draw for it. A reply with a Partial IV of its own uses the number in hand.
 pub(crate) fn reply_drawn(
-    server: &mut Server,
+    server: &mut ServerOf<1>,
     in_hand: &mut Option<Piv>,
     ticket: Ticket,
     own: bool,
@@ -123,7 +123,7 @@ pub(crate) fn reply_drawn(
 
 /// Seals a notification, after the draw for it. It uses the number in hand.
 pub(crate) fn notify_drawn(
-    server: &mut Server,
+    server: &mut ServerOf<1>,
     in_hand: &mut Option<Piv>,
     ticket: &Ticket,
     plain: &Message<'_>,

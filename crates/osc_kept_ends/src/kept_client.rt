@@ -4,7 +4,7 @@ ghost use Rattle.std.specs.Prelude.{◌≡◌, ◌≢◌, ◌≤◌, ◌+◌, �
 ghost use Rattle.osc_coap.specs.Views.{parts_of};
 ghost use Rattle.osc_context.specs.Views.{as_client, number_of};
 ghost use Rattle.osc_client.specs.ClientDeciding.{CanShow, LeavesBy};
-ghost use Rattle.osc_client.specs.ClientHistory.{History, New, Then, Advance, Advanced, Forget, Forgot, Request, Restart, Restarted, next};
+ghost use Rattle.osc_client.specs.ClientHistory.{History, New, Then, Advance, Advanced, Forget, Forgot, HaveSameKey, Request, Restart, Restarted, context as context_in, next, replaced};
 ghost use Rattle.osc_client.specs.Requesting.{sent_entry};
 ghost use Rattle.osc_client.specs.Views.{request_entry};
 ghost use Rattle.osc_client.specs.declared.client_outcome.RequestError.TheVariants.{KeeperFailed};
@@ -13,13 +13,17 @@ ghost use Rattle.osc_kept_ends.specs.KeptAsking.{IsKept, KeptDecides, KeptStep, 
 ghost use Rattle.osc_kept_ends.specs.Numbering.{Goes, Load, nothing_drawn, upcoming};
 ghost use Rattle.osc_kept_ends.specs.Owning.{own_in};
 ghost use Rattle.osc_kept_ends.specs.Refusals.{Loaded, RefusesAt};
+ghost use Rattle.osc_kept_ends.specs.Replacing.{RefusesReplacement};
+ghost use Rattle.osc_life.specs.declared.server_error.ReplaceError.TheVariants.{SameSender};
 ghost use Rattle.osc_kept_ends.specs.Views.{upcoming_of};
 
 use crate::kept_error::{KeptError, lift};
-use crate::source::Source;
+use crate::replace_refusal::ReplaceRefusal;
+use crate::source::{Source, keeper_of};
 use osc_coap::Message;
 use osc_context::{Context, Keeper, Piv};
-use osc_endpoint::{Client, ClientDecision, ClientOutcome, RequestError};
+use osc_endpoint::{Client, ClientDecision, ClientOutcome, ReplaceError, RequestError};
+use std::mem;
 
 /// A client, and the keeper of its numbers. It seals only with numbers that it has drawn, and the keeper reserved each of them
 /// before. No later life begins at a number below what was saved.
@@ -73,6 +77,31 @@ impl<K: Keeper, const N: usize> KeptClient<K, N> {
         self.client.restart(first);
         self.source.begin(numbers);
         Ok(())
+    }
+
+    /// Puts another context in the place of the client's, as when both ends have made new keys, and returns the keeper of the old one. Its
+    /// numbers are those of `keeper`, every pending request is dropped, and the clock goes on. Returns the first refusal in the order of
+    /// `ReplaceRefusal`, with the keeper that was passed in; a refusal drops the context, and changes nothing but that keeper. You must not
+    /// bring back a context that was there before, and no keeper keeps the numbers of two contexts (RFC 8613, 3.3).
+    pub fn replace(&mut self, context: Context, keeper: K) -> Result<K, (ReplaceRefusal, K)>
+        ensures begins { IsOk result → (loaded : ℕ) × Loaded K.loads K.failures keeper loaded self.new.source.keeper
+            × Goes (Load loaded) (nothing_drawn (K.floor keeper)) (own_in self.new.source)
+            × ((h : History) → IsKept self.old.client (upcoming (own_in self.old.source)) h → (HaveSameKey (context_in h) (as_client context) → ⊥)
+            × IsKept self.new.client (upcoming (own_in self.new.source)) (replaced (as_client context) loaded h)) }
+        ensures given { IfOk result (λ old. old ≡ self.old.source.keeper) }
+        ensures refused { IfErr result (λ e. RefusesReplacement (λ r. (r ≡ SameSender) × ((h : History) → IsKept self.old.client (upcoming (own_in self.old.source)) h
+            → HaveSameKey (context_in h) (as_client context))) K.loads K.failures keeper e.0 e.1) }
+        ensures unchanged { OnErr result (self.new ≡ self.old) }
+    {
+        if self.client.has_sender_of(&context) {
+            return Err((ReplaceRefusal::Refused(ReplaceError::SameSender), keeper));
+        }
+        let (source, first) = match Source::start(keeper) {
+            Ok(started) => started,
+            Err((error, keeper)) => return Err((ReplaceRefusal::Kept(lift(error)), keeper)),
+        };
+        self.client.replace_checked(context, first);
+        Ok(keeper_of(mem::replace(&mut self.source, source)))
     }
 
     /// Seals a request as `request` does, and returns the number of the request too.
@@ -187,7 +216,6 @@ impl<K: Keeper, const N: usize> KeptClient<K, N> {
         ensures { result ≡ self.source.keeper }
     {
         let KeptClient { source, .. } = self;
-        let Source { keeper, .. } = source;
-        keeper
+        keeper_of(source)
     }
 }

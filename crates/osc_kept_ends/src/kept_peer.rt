@@ -1,7 +1,7 @@
 //! An end of one context that both asks and answers, and keeps what it needs to do so over all its lives (RFC 8613, 3.1, 7.2.1, 7.4 and
 //! B.1).
 
-ghost use Rattle.std.specs.Prelude.{◌≡◌, ◌<◌, ◌≤◌, ◌^◌, ℕ, IfOk, IfErr};
+ghost use Rattle.std.specs.Prelude.{◌≡◌, ◌<◌, ◌≤◌, ◌^◌, ℕ, IfOk, IfErr, IsOk, OnErr};
 ghost use Rattle.osc_context.specs.Views.{as_client, as_server, number_of};
 ghost use Rattle.osc_client.specs.Agrees.{ClientAgrees};
 ghost use Rattle.osc_client.specs.ClientHistory as asked;
@@ -9,6 +9,8 @@ ghost use Rattle.osc_endpoint.specs.Agrees.{Agrees};
 ghost use Rattle.osc_life.specs.Life.{born, is_open_life};
 ghost use Rattle.osc_life.specs.ServerHistory as served;
 ghost use Rattle.osc_life.specs.declared.start.Start.{Start as StartOf};
+ghost use Rattle.osc_context.specs.SecurityContext.{SecurityContext};
+ghost use Rattle.osc_window.specs.declared.window_size.WindowSize.{WindowSize as Size};
 ghost use Rattle.osc_kept_ends.specs.KeptAsking as asking;
 ghost use Rattle.osc_kept_ends.specs.KeptServing as serving;
 ghost use Rattle.osc_kept_ends.specs.Numbering.{Allowed, Load, nothing_drawn, upcoming};
@@ -16,20 +18,24 @@ ghost use Rattle.osc_kept_ends.specs.PeerOwning.{ahead_in, own_in, received_in};
 ghost use Rattle.osc_kept_ends.specs.Peering.{ClientIsBehind, ClientPasses, IsPeerStart, ServerIsBehind, ServerPasses};
 ghost use Rattle.osc_kept_ends.specs.declared.kept_error.KeptError.TheVariants.{KeptTooLarge};
 ghost use Rattle.osc_kept_ends.specs.Refusals.{RefusesPeer};
+ghost use Rattle.osc_kept_ends.specs.Replacing.{RefusesPeerReplacement};
+ghost use Rattle.osc_endpoint.specs.ServerAnswer.{ReplaceAnswer, ServerAnswer};
 ghost use Rattle.osc_kept_ends.specs.Views.{upcoming_of};
 
 use crate::kept_error::KeptError;
 use crate::peer_source::PeerSource;
+use crate::replace_refusal::ReplaceRefusal;
 use osc_context::{Context, IdContext, Kid, Piv, RecordKeeper};
-use osc_endpoint::{Client, Server, Start};
+use osc_endpoint::{Client, ServerOf, Start};
 use osc_window::WindowSize;
+use std::mem;
 
 /// An end of one context in both roles: a server and a client with one source of Sender Sequence Numbers, and a record that keeps its next
 /// number and what it received. It seals only with numbers that it has drawn, whichever role asks for them, and the record reserved each of
 /// them before. Before it delivers a request, the record has a greater number: so no later life delivers that request again.
 #[derive(Drop)]
 pub struct KeptPeer<R: RecordKeeper, const N: usize> {
-    pub(crate) server: Server,
+    pub(crate) server: ServerOf<1>,
     pub(crate) client: Client<N>,
     pub(crate) source: PeerSource<R>,
     pub ghost served: { ∥ ((h : served.History) × ServerIsBehind server (upcoming_of source.numbers source.in_hand) h) ∥₁ },
@@ -82,7 +88,7 @@ fn copy_of(context: &Context) -> Context
 }
 
 /// Passes over the numbers of a server's context that the client has used.
-pub(crate) fn pass_at_server(server: &mut Server, next: u64)
+pub(crate) fn pass_at_server(server: &mut ServerOf<1>, next: u64)
     requires behind { ∥ ((h : served.History) × ServerIsBehind server.old next h) ∥₁ }
     requires most { next ≤ 2 ^ 40 }
     ensures { (h : served.History) → ServerIsBehind server.old next h
@@ -139,6 +145,35 @@ fn keeper_of<R: RecordKeeper>(source: PeerSource<R>) -> R
     keeper
 }
 
+/// Loads the numbers of a peer that starts, and returns them with the first Sender Sequence Number and how the peer starts: if that is fresh,
+/// the first number is drawn.
+fn load_record<R: RecordKeeper>(
+    keeper: R,
+    ahead: u64,
+) -> Result<(PeerSource<R>, Piv, Start), (KeptError, R)>
+    ensures begins { IfOk result (λ r. (received : ℕ) × (mid : R) × R.loads keeper (number_of r.1) received mid
+        × (R.received_floor keeper ≤ received) × (R.received_floor keeper ≤ R.received_floor r.0.keeper) × IsPeerStart ahead r.2 (number_of r.1) received
+        × (own_in r.0 ≡ serving.started r.2 (number_of r.1) (nothing_drawn (R.sender_floor keeper)))
+        × Allowed (Load (number_of r.1)) (nothing_drawn (R.sender_floor keeper)) × (R.failures r.0.keeper ≡ R.failures keeper) × (received_in r.0 ≡ received)) }
+    ensures ahead { IfOk result (λ r. ahead_in r.0 ≡ ahead) }
+    ensures next { IfOk result (λ r. upcoming (own_in r.0) ≡ number_of r.1) }
+    ensures first { IfOk result (λ r. (s : SecurityContext) (size : Size) → (born s r.2 size).first ≡ number_of r.1) }
+    ensures refused { IfErr result (λ e. RefusesPeer R.loads R.failures keeper e.0 e.1) }
+{
+    let (mut source, first, received) = PeerSource::start(keeper, ahead)?;
+    let start = match start_at(first, received, ahead) {
+        Ok(start) => start,
+        Err(error) => return Err((error, keeper_of(source))),
+    };
+    let Start::Fresh(_) = start else {
+        return Ok((source, first, start));
+    };
+    let Ok(()) = source.draw() else {
+        return Err((KeptError::KeeperFailed, keeper_of(source)));
+    };
+    Ok((source, first, start))
+}
+
 impl<R: RecordKeeper, const N: usize> KeptPeer<R, N> {
     /// Starts a peer of a context with the two numbers that the record loads, and with nothing pending. If both are 0 it starts fresh, and
     /// draws its first number before `start` returns, so that no later start is fresh. If no received number was kept, but numbers were, it
@@ -155,7 +190,7 @@ impl<R: RecordKeeper, const N: usize> KeptPeer<R, N> {
             × (R.received_floor keeper ≤ received) × (R.received_floor keeper ≤ R.received_floor p.source.keeper) × IsPeerStart 0 start sender received
             × (own_in p.source ≡ serving.started start sender (nothing_drawn (R.sender_floor keeper))) × Allowed (Load sender) (nothing_drawn (R.sender_floor keeper))
             × (R.failures p.source.keeper ≡ R.failures keeper)
-            × ServerIsBehind p.server (upcoming (own_in p.source)) (served.Then served.Begin (served.Add (as_server context) start size) (served.Added 0))
+            × ServerIsBehind p.server (upcoming (own_in p.source)) (served.Then served.Begin (served.Add (as_server context) start size 1) (served.Added 0))
             × ClientIsBehind p.client (upcoming (own_in p.source)) (asked.New (as_client context) sender life_ms)
             × (received_in p.source ≡ received)) }
         ensures ahead { IfOk result (λ p. ahead_in p.source ≡ 0) }
@@ -179,23 +214,13 @@ impl<R: RecordKeeper, const N: usize> KeptPeer<R, N> {
             × (R.received_floor keeper ≤ received) × (R.received_floor keeper ≤ R.received_floor p.source.keeper) × IsPeerStart ahead start sender received
             × (own_in p.source ≡ serving.started start sender (nothing_drawn (R.sender_floor keeper))) × Allowed (Load sender) (nothing_drawn (R.sender_floor keeper))
             × (R.failures p.source.keeper ≡ R.failures keeper)
-            × ServerIsBehind p.server (upcoming (own_in p.source)) (served.Then served.Begin (served.Add (as_server context) start size) (served.Added 0))
+            × ServerIsBehind p.server (upcoming (own_in p.source)) (served.Then served.Begin (served.Add (as_server context) start size 1) (served.Added 0))
             × ClientIsBehind p.client (upcoming (own_in p.source)) (asked.New (as_client context) sender life_ms)
             × (received_in p.source ≡ received)) }
         ensures ahead { IfOk result (λ p. ahead_in p.source ≡ ahead) }
         ensures refused { IfErr result (λ e. RefusesPeer R.loads R.failures keeper e.0 e.1) }
     {
-        let (mut source, first, received) = PeerSource::start(keeper, ahead)?;
-        let start = match start_at(first, received, ahead) {
-            Ok(start) => start,
-            Err(error) => return Err((error, keeper_of(source))),
-        };
-        let Start::Fresh(_) = start else {
-            return Ok(KeptPeer::begin(context, source, start, first, size, life_ms));
-        };
-        let Ok(()) = source.draw() else {
-            return Err((KeptError::KeeperFailed, keeper_of(source)));
-        };
+        let (source, first, start) = load_record(keeper, ahead)?;
         Ok(KeptPeer::begin(context, source, start, first, size, life_ms))
     }
 
@@ -210,12 +235,12 @@ impl<R: RecordKeeper, const N: usize> KeptPeer<R, N> {
     ) -> KeptPeer<R, N>
         requires next { upcoming (own_in source) ≡ number_of first }
         requires first { (born (as_server context) start size).first ≡ number_of first }
-        ensures server { ServerIsBehind result.server (upcoming (own_in source)) (served.Then served.Begin (served.Add (as_server context) start size) (served.Added 0)) }
+        ensures server { ServerIsBehind result.server (upcoming (own_in source)) (served.Then served.Begin (served.Add (as_server context) start size 1) (served.Added 0)) }
         ensures client { ClientIsBehind result.client (upcoming (own_in source)) (asked.New (as_client context) (number_of first) life_ms) }
         ensures source { result.source ≡ source }
     {
         let client = Client::new(copy_of(&context), first, life_ms);
-        let mut server = Server::new();
+        let mut server = ServerOf::new();
         match server.add(context, start, size) {
             Ok(_) => KeptPeer {
                 server,
@@ -224,6 +249,47 @@ impl<R: RecordKeeper, const N: usize> KeptPeer<R, N> {
             },
             Err(_) => unreachable!(),
         }
+    }
+
+    /// Puts another context in the place of the peer's, in both roles, as when both ends have made new keys, and returns the record of the old
+    /// one. Its numbers are those of `keeper`, at which it starts as `start` does, with as many received numbers kept ahead as before. Older
+    /// tickets are stale, every pending request is dropped, and the clocks go on. Returns the first refusal in the order of
+    /// `ReplaceRefusal`, with the record that was passed in; a refusal drops the context, and changes nothing but that record. You must not
+    /// bring back a context that was there before, and no record keeps the numbers of two contexts (RFC 8613, 3.3).
+    pub fn replace(
+        &mut self,
+        context: Context,
+        keeper: R,
+        size: WindowSize,
+    ) -> Result<R, (ReplaceRefusal, R)>
+        ensures begins { IsOk result → (sender : ℕ) × (received : ℕ) × (mid : R) × (start : StartOf) × R.loads keeper sender received mid
+            × (R.received_floor keeper ≤ received) × (R.received_floor keeper ≤ R.received_floor self.new.source.keeper)
+            × IsPeerStart (ahead_in self.old.source) start sender received
+            × (own_in self.new.source ≡ serving.started start sender (nothing_drawn (R.sender_floor keeper))) × Allowed (Load sender) (nothing_drawn (R.sender_floor keeper))
+            × (R.failures self.new.source.keeper ≡ R.failures keeper) × (received_in self.new.source ≡ received)
+            × ((h : served.History) → ServerIsBehind self.old.server (upcoming (own_in self.old.source)) h
+            → ServerAnswer h (served.Replace 0 (as_server context) start size) served.Replaced
+            × serving.IsKept self.new.server (upcoming (own_in self.new.source)) (served.Then h (served.Replace 0 (as_server context) start size) served.Replaced))
+            × ((k : asked.History) → ClientIsBehind self.old.client (upcoming (own_in self.old.source)) k
+            → asking.IsKept self.new.client (upcoming (own_in self.new.source)) (asked.replaced (as_client context) sender k)) }
+        ensures ahead { IsOk result → ahead_in self.new.source ≡ ahead_in self.old.source }
+        ensures given { IfOk result (λ old. old ≡ self.old.source.keeper) }
+        ensures refused { IfErr result (λ e. RefusesPeerReplacement (λ r. (h : served.History) → ServerIsBehind self.old.server (upcoming (own_in self.old.source)) h
+            → ReplaceAnswer (served.life h) 0 (as_server context) (served.NotReplaced r)) R.loads R.failures keeper e.0 e.1) }
+        ensures unchanged { OnErr result (self.new ≡ self.old) }
+    {
+        // For the proof alone.
+        let (_sender, _recipient) = (context.sender().bytes(), context.recipient().bytes());
+        if let Err(error) = self.server.check_replace(0, &context) {
+            return Err((ReplaceRefusal::Refused(error), keeper));
+        }
+        let (source, first, start) = match load_record(keeper, self.source.ahead()) {
+            Ok(loaded) => loaded,
+            Err((error, keeper)) => return Err((ReplaceRefusal::Kept(error), keeper)),
+        };
+        self.client.replace_checked(copy_of(&context), first);
+        self.server.replace_checked(0, context, start, size);
+        Ok(keeper_of(mem::replace(&mut self.source, source)))
     }
 
     /// Moves the clocks of both roles to `now`, in milliseconds, if that is later. Draws no number.

@@ -2,41 +2,70 @@
 
 ghost use Rattle.std.specs.Prelude.{◌≡◌, ◌≢◌, ◌≤◌, ◌+◌, ℕ, Ok, Err, IsOk, IsErr, IfOk, IfErr, OnErr, length, take, drop};
 ghost use Rattle.osc_coap.specs.Views.{parts_of};
-ghost use Rattle.osc_context.specs.Views.{as_server, number_of};
+ghost use Rattle.osc_context.specs.Views.{as_server};
 ghost use Rattle.osc_life.specs.Deciding.{CanShow};
 ghost use Rattle.osc_endpoint.specs.Deciding.{LeavesBy};
 ghost use Rattle.osc_life.specs.Life.{born};
-ghost use Rattle.osc_endpoint.specs.ServerAnswer.{ServerAnswer};
+ghost use Rattle.osc_endpoint.specs.ServerAnswer.{ReplaceAnswer, ServerAnswer};
 ghost use Rattle.osc_life.specs.LifeAnswer.{asks_own};
-ghost use Rattle.osc_life.specs.ServerHistory.{History, Begin, Then, Add, Added, Advance, Advanced, Notify, Reply, Restart, Restarted, NotRestarted};
+ghost use Rattle.osc_life.specs.ServerHistory.{History, Begin, Then, Add, Added, Advance, Advanced, Notify, Replace, Replaced, NotReplaced, Reply, Restart, Restarted, NotRestarted, life};
 ghost use Rattle.osc_life.specs.Views.{reply_entry, values_of};
 ghost use Rattle.osc_endpoint.specs.Views.{server_entry};
 ghost use Rattle.osc_life.specs.declared.server_error.ReplyError.TheVariants as replies;
 ghost use Rattle.osc_life.specs.declared.server_error.RestartError.TheVariants as restarts;
 ghost use Rattle.osc_life.specs.declared.start.Start.{Start as StartOf};
+ghost use Rattle.osc_context.specs.SecurityContext.{SecurityContext};
+ghost use Rattle.osc_window.specs.declared.window_size.WindowSize.{WindowSize as Size};
 ghost use Rattle.osc_kept_ends.specs.declared.kept_error.KeptError.TheVariants.{LivesExhausted};
 ghost use Rattle.osc_kept_ends.specs.EchoNumber.{echo_of};
 ghost use Rattle.osc_kept_ends.specs.KeptServing.{IsKept, IsStart, KeptDecides, KeptStep, started};
 ghost use Rattle.osc_kept_ends.specs.Numbering.{Allowed, Goes, Load, nothing_drawn, upcoming};
 ghost use Rattle.osc_kept_ends.specs.Owning.{own_in};
 ghost use Rattle.osc_kept_ends.specs.Refusals.{Loaded, RefusesAt};
+ghost use Rattle.osc_kept_ends.specs.Replacing.{RefusesReplacement};
 ghost use Rattle.osc_kept_ends.specs.Views.{upcoming_of};
 
 use crate::drawn::{decide_drawn, draw_for_datagram, draw_for_reply, notify_drawn, reply_drawn};
 use crate::kept_error::{KeptError, lift};
-use crate::source::Source;
+use crate::replace_refusal::ReplaceRefusal;
+use crate::source::{Source, keeper_of};
 use osc_coap::Message;
 use osc_context::{Context, Keeper, KeeperError};
-use osc_endpoint::{Decided, Fresh, Outcome, ReplyError, Server, Start, Taken, Ticket};
+use osc_endpoint::{Decided, Fresh, Outcome, ReplyError, ServerOf, Start, Taken, Ticket};
 use osc_window::WindowSize;
+use std::mem;
 
 /// A server of one context, and the keeper of its Sender Sequence Numbers. It seals only with numbers that it has drawn, and the keeper
 /// reserved each of them before. No later life begins at a number below what was saved.
 #[derive(Drop)]
 pub struct KeptServer<K: Keeper> {
-    pub(crate) server: Server,
+    pub(crate) server: ServerOf<1>,
     pub(crate) source: Source<K>,
     pub ghost kept: { ∥ ((h : History) × IsKept server (upcoming_of source.numbers source.in_hand) h) ∥₁ },
+}
+
+/// Loads the numbers of a server that starts, and returns them with how it starts: fresh if and only if the number is 0; then the first
+/// number is drawn.
+fn load_start<K: Keeper>(keeper: K) -> Result<(Source<K>, Start), (KeptError, K)>
+    ensures begins { IfOk result (λ r. (loaded : ℕ) × (mid : K) × Loaded K.loads K.failures keeper loaded mid × IsStart r.1 loaded
+        × (own_in r.0 ≡ started r.1 loaded (nothing_drawn (K.floor keeper))) × (K.failures r.0.keeper ≡ K.failures keeper)
+        × Allowed (Load loaded) (nothing_drawn (K.floor keeper))) }
+    ensures first { IfOk result (λ r. (s : SecurityContext) (size : Size) → upcoming (own_in r.0) ≡ (born s r.1 size).first) }
+    ensures refused { IfErr result (λ e. RefusesAt K.loads K.failures keeper e.0 e.1) }
+    ensures floor_stays { IfErr result (λ e. K.floor e.1 ≡ K.floor keeper) }
+    ensures no_lives_exhausted { IfErr result (λ e. e.0 ≢ LivesExhausted) }
+{
+    let (mut source, first) = match Source::start(keeper) {
+        Ok(started) => started,
+        Err((error, keeper)) => return Err((lift(error), keeper)),
+    };
+    if first.number() > 0 {
+        return Ok((source, Start::Restarted(first)));
+    }
+    let Ok(()) = source.draw() else {
+        return Err((KeptError::KeeperFailed, keeper_of(source)));
+    };
+    Ok((source, Start::Fresh(first)))
 }
 
 impl<K: Keeper> KeptServer<K> {
@@ -53,33 +82,25 @@ impl<K: Keeper> KeptServer<K> {
         ensures begins { IfOk result (λ s. (loaded : ℕ) × (mid : K) × (start : StartOf)
             × Loaded K.loads K.failures keeper loaded mid × IsStart start loaded
             × (own_in s.source ≡ started start loaded (nothing_drawn (K.floor keeper))) × (K.failures s.source.keeper ≡ K.failures keeper)
-            × IsKept s.server (upcoming (own_in s.source)) (Then Begin (Add (as_server context) start size) (Added 0))
+            × IsKept s.server (upcoming (own_in s.source)) (Then Begin (Add (as_server context) start size 1) (Added 0))
             × Allowed (Load loaded) (nothing_drawn (K.floor keeper))) }
         ensures refused { IfErr result (λ e. RefusesAt K.loads K.failures keeper e.0 e.1) }
         ensures floor_stays { IfErr result (λ e. K.floor e.1 ≡ K.floor keeper) }
         ensures no_lives_exhausted { IfErr result (λ e. e.0 ≢ LivesExhausted) }
     {
-        let (mut source, first) = match Source::start(keeper) {
-            Ok(started) => started,
-            Err((error, keeper)) => return Err((lift(error), keeper)),
-        };
-        if first.number() > 0 {
-            return Ok(KeptServer::begin(context, source, Start::Restarted(first), size));
+        match load_start(keeper) {
+            Ok((source, start)) => Ok(KeptServer::begin(context, source, start, size)),
+            Err(refused) => Err(refused),
         }
-        let Ok(()) = source.draw() else {
-            let Source { keeper, .. } = source;
-            return Err((KeptError::KeeperFailed, keeper));
-        };
-        Ok(KeptServer::begin(context, source, Start::Fresh(first), size))
     }
 
     /// Makes a server of a context that starts at the number with which the source goes on.
     fn begin(context: Context, source: Source<K>, start: Start, size: WindowSize) -> KeptServer<K>
         requires { upcoming (own_in source) ≡ (born (as_server context) start size).first }
-        ensures kept { IsKept result.server (upcoming (own_in source)) (Then Begin (Add (as_server context) start size) (Added 0)) }
+        ensures kept { IsKept result.server (upcoming (own_in source)) (Then Begin (Add (as_server context) start size 1) (Added 0)) }
         ensures source { result.source ≡ source }
     {
-        let mut server = Server::new();
+        let mut server = ServerOf::new();
         match server.add(context, start, size) {
             Ok(_) => KeptServer { server, source },
             Err(_) => unreachable!(),
@@ -109,6 +130,40 @@ impl<K: Keeper> KeptServer<K> {
         };
         self.source.begin(numbers);
         Ok(())
+    }
+
+    /// Puts another context in the place of the server's, as when both ends have made new keys, and returns the keeper of the old one. Its
+    /// numbers are those of `keeper`, at which it starts as `start` does, and older tickets are stale. Returns the first refusal in the order
+    /// of `ReplaceRefusal`, with the keeper that was passed in; a refusal drops the context, and changes nothing but that keeper. You must not
+    /// bring back a context that was there before, and no keeper keeps the numbers of two contexts (RFC 8613, 3.3).
+    pub fn replace(
+        &mut self,
+        context: Context,
+        keeper: K,
+        size: WindowSize,
+    ) -> Result<K, (ReplaceRefusal, K)>
+        ensures begins { IsOk result → (loaded : ℕ) × (mid : K) × (start : StartOf) × Loaded K.loads K.failures keeper loaded mid × IsStart start loaded
+            × (own_in self.new.source ≡ started start loaded (nothing_drawn (K.floor keeper))) × (K.failures self.new.source.keeper ≡ K.failures keeper)
+            × Allowed (Load loaded) (nothing_drawn (K.floor keeper))
+            × ((h : History) → IsKept self.old.server (upcoming (own_in self.old.source)) h
+            → ServerAnswer h (Replace 0 (as_server context) start size) Replaced
+            × IsKept self.new.server (upcoming (own_in self.new.source)) (Then h (Replace 0 (as_server context) start size) Replaced)) }
+        ensures given { IfOk result (λ old. old ≡ self.old.source.keeper) }
+        ensures refused { IfErr result (λ e. RefusesReplacement (λ r. (h : History) → IsKept self.old.server (upcoming (own_in self.old.source)) h
+            → ReplaceAnswer (life h) 0 (as_server context) (NotReplaced r)) K.loads K.failures keeper e.0 e.1) }
+        ensures unchanged { OnErr result (self.new ≡ self.old) }
+    {
+        // For the proof alone.
+        let (_sender, _recipient) = (context.sender().bytes(), context.recipient().bytes());
+        if let Err(error) = self.server.check_replace(0, &context) {
+            return Err((ReplaceRefusal::Refused(error), keeper));
+        }
+        let (source, start) = match load_start(keeper) {
+            Ok(loaded) => loaded,
+            Err((error, keeper)) => return Err((ReplaceRefusal::Kept(error), keeper)),
+        };
+        self.server.replace_checked(0, context, start, size);
+        Ok(keeper_of(mem::replace(&mut self.source, source)))
     }
 
     /// Decides the answer to a datagram, as `Server::decide` does; this is the first half of `take`. If the gate is closed and no
@@ -248,7 +303,6 @@ impl<K: Keeper> KeptServer<K> {
         ensures { result ≡ self.source.keeper }
     {
         let KeptServer { source, .. } = self;
-        let Source { keeper, .. } = source;
-        keeper
+        keeper_of(source)
     }
 }

@@ -1,6 +1,6 @@
 //! How the source of a Sender Key goes from peer to peer, where several contexts have that key (RFC 8613, 3.3, 5.2 and 7.2.1).
 
-ghost use Rattle.std.specs.Prelude.{◌≡◌, ◌≢◌, ◌<◌, ◌≤◌, ◌^◌, ◌↔◌, ℕ, IfErr, IfNone, IfOk, IfSome, IsNone, IsOk, IsSome, IsTrue, OnErr};
+ghost use Rattle.std.specs.Prelude.{◌≡◌, ◌<◌, ◌≤◌, ◌^◌, ◌↔◌, ℕ, IfErr, IfNone, IfOk, IfSome, IsNone, IsOk, IsSome, IsTrue, OnErr};
 ghost use Rattle.osc_context.specs.Fingerprint.{fingerprint_of};
 ghost use Rattle.osc_context.specs.Views.{as_client, as_server, number_of};
 ghost use Rattle.osc_client.specs.ClientHistory as asked;
@@ -91,7 +91,7 @@ impl<K: Keeper + Drop, Q: Keeper + Drop, const N: usize> KeptPeer<SharedRecord<K
     ) -> Result<KeptPeer<SharedRecord<K, Q>, N>, (KeptError, Q)>
         ensures begins { IfOk result (λ p. (n : ℕ) × (start : StartOf) × Loaded Q.loads Q.failures received n (received_in p.source.keeper) × (Q.floor received ≤ n)
             × IsRestingStart ahead start n × (own_in p.source ≡ nothing_drawn 0) × IsNone (sender_in p.source.keeper)
-            × ServerIsBehind p.server 0 (served.Then served.Begin (served.Add (as_server context) start size) (served.Added 0))
+            × ServerIsBehind p.server 0 (served.Then served.Begin (served.Add (as_server context) start size 1) (served.Added 0))
             × ClientIsBehind p.client 0 (asked.New (as_client context) 0 life_ms)) }
         ensures fingerprint { IfOk result (λ p. fingerprint_in p.source.keeper ≡ fingerprint_of (as_client context).client_key (as_client context).client) }
         ensures ahead { IfOk result (λ p. ahead_in p.source ≡ ahead) }

@@ -22,12 +22,12 @@ use crate::kept_peer::{KeptPeer, pass_at_server};
 use crate::peer_source::PeerSource;
 use osc_coap::Message;
 use osc_context::{KeeperError, RecordKeeper};
-use osc_endpoint::{Decided, Decision, Fresh, Outcome, ReplyError, Server, Taken, Ticket};
+use osc_endpoint::{Decided, Decision, Fresh, Outcome, ReplyError, ServerOf, Taken, Ticket};
 use osc_window::Gate;
 
 /// Draws a number for a challenge, if the gate is closed.
 fn draw_for_request<R: RecordKeeper>(
-    server: &Server,
+    server: &ServerOf<1>,
     source: &mut PeerSource<R>,
 ) -> Result<(), KeeperError>
     ensures drawn { IsOk result → (h : served.History) → Agrees server.now h → Draws (not (is_open_life (served.life h 0))) (own_in source.old) (own_in source.new) }
@@ -45,7 +45,7 @@ fn draw_for_request<R: RecordKeeper>(
 
 /// Keeps the number of a request that is delivered, or takes the delivery back if that fails.
 fn keep_delivery<R: RecordKeeper>(
-    server: &mut Server,
+    server: &mut ServerOf<1>,
     source: &mut PeerSource<R>,
     gate: Option<Gate>,
     decision: &Decision,

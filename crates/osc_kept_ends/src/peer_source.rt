@@ -124,6 +124,13 @@ impl<R: RecordKeeper> PeerSource<R> {
         }
     }
 
+    /// Returns how many received numbers more are kept with each that is received.
+    pub(crate) fn ahead(&self) -> u64
+        ensures { result ≡ ahead_in self.now }
+    {
+        self.ahead
+    }
+
     /// Draws the next number if none is in hand, unless none is left. If the record fails, the numbers don't change.
     pub(crate) fn draw(&mut self) -> Result<(), KeeperError>
         ensures drawn { IsOk result → Draws true (own_in self.old) (own_in self.new) }

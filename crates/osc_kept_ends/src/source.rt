@@ -36,6 +36,14 @@ fn load<K: Keeper>(keeper: &mut K) -> Result<(Numbers, Piv), NumbersError>
     }
 }
 
+/// Ends the numbers of an end, and returns their keeper.
+pub(crate) fn keeper_of<K: Keeper>(source: Source<K>) -> K
+    ensures { result ≡ source.keeper }
+{
+    let Source { keeper, .. } = source;
+    keeper
+}
+
 impl<K: Keeper> Source<K> {
     ghost use Rattle.osc_kept_ends.specs.Owning.{own_in};
 

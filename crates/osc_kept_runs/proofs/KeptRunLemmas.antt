@@ -6,7 +6,7 @@ use Rattle.osc_client.specs.declared.client.Client.{Client}
 use Rattle.osc_endpoint.specs.declared.client_event.ClientEntry.TheVariants as asked
 use Rattle.osc_client.specs.declared.client_outcome.RequestError.{RequestError}
 use Rattle.osc_client.specs.declared.client_outcome.RequestError.TheVariants as requests
-use Rattle.osc_endpoint.specs.declared.server.Server.{Server}
+use Rattle.osc_endpoint.specs.declared.server.ServerOf.{ServerOf}
 use Rattle.osc_life.specs.declared.server_error.ReplyError.{ReplyError}
 use Rattle.osc_life.specs.declared.server_error.ReplyError.TheVariants as replies
 use Rattle.osc_life.specs.declared.server_error.RestartError.TheVariants as restarts
@@ -57,33 +57,33 @@ took_step h old a x reply g new o answer logs goes numbers is = (answer, logs, g
 
 -- a refused reply: by the keeper, which changes nothing else, or as the server answers
 pub refused_step : {K : Type 0} {k : keeper.Ghosts K} (h : History) (old : Source K k) (ts : List (Option TicketValues)) (of : ℕ) (own : Bool) (mid : ℕ) (plain : List ℕ) (room : ℕ) (e : ReplyError)
-    (new : Source K k) (us : List (Option TicketValues)) (t : TicketValues) (p : Parts) (before after : Server)
+    (new : Source K k) (us : List (Option TicketValues)) (t : TicketValues) (p : Parts) (before after : ServerOf 1)
     → ticket_at ts of ≡ Some t → IsDatagram p plain → us ≡ ts → IsKept before (upcoming (own_in old)) h
     → (e ≡ replies.KeeperFailed → (own_in new ≡ own_in old) × (k.failures new.keeper ≡ k.failures old.keeper + 1)) → (e ≢ replies.KeeperFailed → Worked old new)
     → (e ≢ replies.KeeperFailed → KeptStep h (Reply t (asks_own t own) mid p room) (NotReplied e) (own_in old) (own_in new) after) → after ≡ before
     → (g : History) × ReplyStep h old ts of own mid plain room (served.Replied (Err e)) g new us × IsKept after (upcoming (own_in new)) g
 refused_step h old ts of own mid plain room replies.KeeperFailed new us t p before after seen is back kept failed worked answered same =
     let f = failed refl in
-    (h, (t, seen, p, is, refl, (f.1, f.0), back), subst (λ (o : Own). IsKept after (upcoming o) h) (sym f.0) (subst (λ (s : Server). IsKept s (upcoming (own_in old)) h) (sym same) kept))
+    (h, (t, seen, p, is, refl, (f.1, f.0), back), subst (λ (o : Own). IsKept after (upcoming o) h) (sym f.0) (subst (λ (s : ServerOf 1). IsKept s (upcoming (own_in old)) h) (sym same) kept))
 refused_step h old ts of own mid plain room e new us t p before after seen is back kept failed worked answered same =
     let step = answered (λ is. cc) in
     (_, (t, seen, p, is, (step.row, refl), (step.numbers, worked (λ is. cc)), back), step.kept)
 
 -- a refused notification, in the same way
 pub unnotified_step : {K : Type 0} {k : keeper.Ghosts K} (h : History) (old : Source K k) (ts : List (Option TicketValues)) (of : ℕ) (plain : List ℕ) (room : ℕ) (e : ReplyError)
-    (new : Source K k) (t : TicketValues) (p : Parts) (before after : Server) → ticket_at ts of ≡ Some t → IsDatagram p plain → IsKept before (upcoming (own_in old)) h
+    (new : Source K k) (t : TicketValues) (p : Parts) (before after : ServerOf 1) → ticket_at ts of ≡ Some t → IsDatagram p plain → IsKept before (upcoming (own_in old)) h
     → (e ≡ replies.KeeperFailed → (own_in new ≡ own_in old) × (k.failures new.keeper ≡ k.failures old.keeper + 1)) → (e ≢ replies.KeeperFailed → Worked old new)
     → (e ≢ replies.KeeperFailed → KeptStep h (Notify t p room) (NotReplied e) (own_in old) (own_in new) after) → after ≡ before
     → (g : History) × NotifyStep h old ts of plain room (served.Replied (Err e)) g new × IsKept after (upcoming (own_in new)) g
 unnotified_step h old ts of plain room replies.KeeperFailed new t p before after seen is kept failed worked answered same =
     let f = failed refl in
-    (h, (t, seen, p, is, refl, (f.1, f.0)), subst (λ (o : Own). IsKept after (upcoming o) h) (sym f.0) (subst (λ (s : Server). IsKept s (upcoming (own_in old)) h) (sym same) kept))
+    (h, (t, seen, p, is, refl, (f.1, f.0)), subst (λ (o : Own). IsKept after (upcoming o) h) (sym f.0) (subst (λ (s : ServerOf 1). IsKept s (upcoming (own_in old)) h) (sym same) kept))
 unnotified_step h old ts of plain room e new t p before after seen is kept failed worked answered same =
     let step = answered (λ is. cc) in
     (_, (t, seen, p, is, (step.row, refl), (step.numbers, worked (λ is. cc))), step.kept)
 
 -- a restart: at what was loaded, or refused
-pub restart_step : {K : Type 0} {k : keeper.Ghosts K} (h : History) (old : Source K k) (r : Result (Unit {0}) KeptError) (new : Source K k) (before after : Server)
+pub restart_step : {K : Type 0} {k : keeper.Ghosts K} (h : History) (old : Source K k) (r : Result (Unit {0}) KeptError) (new : Source K k) (before after : ServerOf 1)
     → IsKept before (upcoming (own_in old)) h
     → (IsOk r → (loaded : ℕ) × Loaded k.loads k.failures old.keeper loaded new.keeper × Goes (Load loaded) (own_in old) (own_in new)
     × ((h : History) → IsKept before (upcoming (own_in old)) h → ServerAnswer h (Restart 0 loaded) Restarted × IsKept after (upcoming (own_in new)) (Then h (Restart 0 loaded) Restarted)))
@@ -98,7 +98,7 @@ restart_step h old (Ok x) new before after kept begins refused lives unchanged =
 restart_step h old (Err e) new before after kept begins refused lives unchanged = (
   h,
   (refused, refl, unchanged.1, λ is loaded. lives (ap Err is) loaded h kept),
-  subst (λ (o : Own). IsKept after (upcoming o) h) (sym unchanged.1) (subst (λ (s : Server). IsKept s (upcoming (own_in old)) h) (sym unchanged.0) kept),
+  subst (λ (o : Own). IsKept after (upcoming o) h) (sym unchanged.1) (subst (λ (s : ServerOf 1). IsKept s (upcoming (own_in old)) h) (sym unchanged.0) kept),
 )
 
 -- ---- clients

@@ -9,12 +9,15 @@ use Rattle.std.proofs.lemmas.Bool.Decides.{leb_tells}
 use Rattle.osc_coap.specs.Inner.{InnerParts}
 use Rattle.osc_window.proofs.Agreements.{places_most}
 use Rattle.osc_window.specs.Views.{places_of}
+use Rattle.osc_window.specs.declared.window_size.WindowSize.{WindowSize}
+use Rattle.osc_context.specs.SecurityContext.{SecurityContext}
 use Rattle.osc_laws.specs.Laws.{AllAnswers, AreApart, DeliveredOnce, Pairwise, delivered}
-use Rattle.osc_life.specs.Life.{Admits, Answered, Challenged, Delivered, Life, Mark, PassedOver, Spoiled, born, is_open, marked, opened, renewed, spent}
+use Rattle.osc_life.specs.Life.{Admits, Answered, Challenged, Delivered, Life, Mark, PassedOver, Spoiled, born, is_open, marked, opened, renewed, spent, succeeding}
 use Rattle.osc_observe.specs.Received.{Received}
-use Rattle.osc_life.specs.LifeAnswer.{LifeRestart, LifeSkip}
+use Rattle.osc_life.specs.LifeAnswer.{LifeReplace, LifeRestart, LifeSkip}
+use Rattle.osc_life.specs.declared.start.Start.{Start}
 use Rattle.osc_endpoint.specs.ServerAnswer.{ServerAnswer}
-use Rattle.osc_life.specs.ServerHistory.{Add, Added, Advance, Answer, Begin, Datagram, Deliver, Entry, Event, History, Notify, Replied, Reply, Restart, Restarted, Skip, Skipped, Then, TicketValues, Took, added, clock, life, mark_at, reply_mark_at, skip_mark_at}
+use Rattle.osc_life.specs.ServerHistory.{Add, Added, Advance, Answer, Begin, Datagram, Deliver, Entry, Event, History, Notify, NotReplaced, Replace, Replaced, Replied, Reply, Restart, Restarted, Skip, Skipped, Then, TicketValues, Took, added, clock, life, mark_at, reply_mark_at, skip_mark_at}
 use Rattle.osc_life.proofs.Lives.{closed_bare}
 
 -- ---- numbers that are spent
@@ -82,6 +85,10 @@ spent_renewed : (o : Option Life) (next : ℕ) (t : TicketValues) → IsSpentIn 
 spent_renewed None next t h = h
 spent_renewed (Some of) next t h = (omega (arith, h.0), λ e. absurd (omega (arith, h.0, e)))
 
+spent_succeeding : (o : Option Life) (s : SecurityContext) (start : Start) (size : WindowSize) (t : TicketValues) → IsSpentIn o t → IsSpentIn (option_map (succeeding s start size) o) t
+spent_succeeding None s start size t h = h
+spent_succeeding (Some of) s start size t h = (omega (arith, h.0), λ e. absurd (omega (arith, h.0, e)))
+
 -- a delivery spends its number
 spent_now : (o : Option Life) (of : Life) (b : Bool) (t : TicketValues) → o ≡ Some of → b ≡ true → t.life ≡ of.count
     → IsSpentIn (option_map (marked (if b then Some (Delivered t.number) else None)) o) t
@@ -94,7 +101,7 @@ abbrev pub HasNoneBeyond : History → Type 0
 HasNoneBeyond h = (i : ℕ) → added h ≤ i → life h i ≡ None
 
 none_after : (h : History) (event : Event) (entry : Entry) → ServerAnswer h event entry → HasNoneBeyond h → HasNoneBeyond (Then h event entry)
-none_after h (Add s start size) (Added index) row none i beyond =
+none_after h (Add s start size places) (Added index) row none i beyond =
     let later : added h + 1 ≤ i = beyond in
     let index_is : index ≡ added h = row.1.2 in
     cond-false (i == index) (Some (born s start size)) (life h i) (ne_eqb i index (λ e. omega (arith, later, index_is, e))) ∙ none i (omega (arith, later))
@@ -103,6 +110,8 @@ none_after h (Reply ticket own mid plain room) (Replied bytes) row none i beyond
 none_after h (Notify ticket plain room) (Replied bytes) row none i beyond = ap (option_map (marked (reply_mark_at i ticket true))) (none i beyond)
 none_after h (Restart context next) Restarted row none i beyond =
     cond_both (i == context) (option_map (renewed next) (life h i)) (life h i) (λ o. o ≡ None) (λ e. ap (option_map (renewed next)) (none i beyond)) (λ e. none i beyond)
+none_after h (Replace context s start size) Replaced row none i beyond =
+    cond_both (i == context) (option_map (succeeding s start size) (life h i)) (life h i) (λ o. o ≡ None) (λ e. ap (option_map (succeeding s start size)) (none i beyond)) (λ e. none i beyond)
 none_after h (Skip context count) Skipped row none i beyond = ap (option_map (marked (skip_mark_at i context count))) (none i beyond)
 none_after h event (Added index) row none i beyond = let later : added h + 1 ≤ i = beyond in none i (omega (arith, later))
 none_after h event entry row none i beyond = none i beyond
@@ -116,7 +125,7 @@ none_beyond (Then h event entry) all = none_after h event entry all.1 (none_beyo
 -- a number that is spent stays so
 pub still_spent : (h : History) (event : Event) (entry : Entry) → ServerAnswer h event entry → HasNoneBeyond h
     → (t : TicketValues) → IsSpentIn (life h t.context) t → IsSpentIn (life (Then h event entry) t.context) t
-still_spent h (Add s start size) (Added index) row none t before =
+still_spent h (Add s start size places) (Added index) row none t before =
     let index_is : index ≡ added h = row.1.2 in
     cond_both (t.context == index) (Some (born s start size)) (life h t.context) (λ o. IsSpentIn o t)
     (λ e. absurd (no_ticket (life h t.context) t (none t.context (omega (arith, eqb-true t.context index e, index_is))) before)) (λ e. before)
@@ -126,6 +135,9 @@ still_spent h (Notify ticket plain room) (Replied bytes) row none t before = spe
 still_spent h (Restart context next) Restarted row none t before =
     cond_both (t.context == context) (option_map (renewed next) (life h t.context)) (life h t.context) (λ o. IsSpentIn o t)
     (λ e. spent_renewed (life h t.context) next t before) (λ e. before)
+still_spent h (Replace context s start size) Replaced row none t before =
+    cond_both (t.context == context) (option_map (succeeding s start size) (life h t.context)) (life h t.context) (λ o. IsSpentIn o t)
+    (λ e. spent_succeeding (life h t.context) s start size t before) (λ e. before)
 still_spent h (Skip context count) Skipped row none t before = spent_marked (life h t.context) (skip_mark_at t.context context count) t before
 still_spent h event entry row none t before = before
 
@@ -154,6 +166,18 @@ restart_takes_none : (o : Option Life) (answer : Answer) (reply : List ℕ) → 
 restart_takes_none None answer reply row = row
 restart_takes_none (Some of) answer reply row = row
 
+-- the entry isn't that of a replacement
+abbrev pub IsOther : Entry → Type 0
+IsOther Replaced = ⊥
+IsOther (NotReplaced e) = ⊥
+IsOther entry = Unit {0}
+
+pub no_other : (o : Option Life) (entry : Entry) → IsOther entry → LifeReplace o entry → ⊥
+no_other o Replaced other row = other
+no_other o (NotReplaced e) other row = other
+no_other None entry other row = row
+no_other (Some of) entry other row = row
+
 skip_takes_none : (o : Option Life) (count : ℕ) (answer : Answer) (reply : List ℕ) → LifeSkip o count (Took answer reply) → ⊥
 skip_takes_none None count answer reply row = row
 skip_takes_none (Some of) count answer reply row = row
@@ -170,10 +194,11 @@ first_delivery h (Datagram now echo mid d) received ticket reply ((i, n, of, req
       apart = λ t. apart_from h of moment received.message ticket t there count (subst (λ k. Admits of moment k received.message) (sym number) admits);
       near = λ t. near_to h of moment received.message ticket t there count (subst (λ k. Admits of moment k received.message) (sym number) admits);
     }
-first_delivery h (Add s start size) received ticket reply row = absurd row.1
+first_delivery h (Add s start size places) received ticket reply row = absurd row.1
 first_delivery h (Reply t own mid plain room) received ticket reply row = absurd row.2
 first_delivery h (Notify t plain room) received ticket reply row = absurd row.1.2
 first_delivery h (Restart i next) received ticket reply row = absurd (restart_takes_none (life h i) (Deliver received ticket) reply row)
+first_delivery h (Replace i s start size) received ticket reply row = absurd (no_other (life h i) (Took (Deliver received ticket) reply) tt row.1)
 first_delivery h (Skip i count) received ticket reply row = absurd (skip_takes_none (life h i) count (Deliver received ticket) reply row)
 first_delivery h (Advance now) received ticket reply row = absurd row
 

@@ -477,9 +477,9 @@ module _ (laws : ExchangeLaws) where
   pub admits_in_time : (n i : ℕ) (x : Exchange) (of : Life) → IsHonest n i x → server.life (server_of x) i ≡ Some of → AdmitsInTime i x of
   admits_in_time n i x of honest life = subst (AdmitsInTime i x) (some_is (sym (goes n i x honest).step.life_is ∙ life)) (in_time_at n i x honest)
 
-pub starts_in_step : (s : SecurityContext) (first ms i : ℕ) (own : Piv) (size : WindowSize) (g : server.History)
-    → AreInStep i (client.New s first ms) (server.Then g (server.Add s (starts.Fresh own) size) (server.Added i))
-starts_in_step s first ms i own size g =
+pub starts_in_step : (s : SecurityContext) (first ms i : ℕ) (own : Piv) (size : WindowSize) (places : ℕ) (g : server.History)
+    → AreInStep i (client.New s first ms) (server.Then g (server.Add s (starts.Fresh own) size places) (server.Added i))
+starts_in_step s first ms i own size places g =
     let of : Life = born s (starts.Fresh own) size in
     in_step i _ _ of (ap (λ b. if b then Some of else server.life g i) (eq-eqb i i refl)) (record {
       same = refl;

@@ -8,7 +8,7 @@ use Rattle.osc_context.specs.SecurityContext.{SecurityContext}
 use Rattle.osc_window.specs.Views.{places_of}
 use Rattle.osc_client.specs.ClientHistory as client
 use Rattle.osc_laws.specs.Exchange.{Request, AtClient, AtServer, Brings, Exchange, Starts, Then, AreInStep, IsElsewhere, IsHonest, IsOfThese, LeavesNew, StaysOpen, client_of, sent, server_of, tickets}
-use Rattle.osc_life.specs.Life.{Life, Mark, Answered, Challenged, Delivered, IsNewIn, PassedOver, Spoiled, born, is_open, marked, renewed, spent}
+use Rattle.osc_life.specs.Life.{Life, Mark, Answered, Challenged, Delivered, IsNewIn, PassedOver, Spoiled, born, is_open, marked, renewed, succeeding, spent}
 use Rattle.osc_endpoint.specs.ServerAnswer.{ServerAnswer}
 use Rattle.osc_life.specs.ServerHistory as server
 use Rattle.osc_laws.proofs.DeliveredNumbers.{HasNoneBeyond}
@@ -100,7 +100,7 @@ marked_fits s first o m h (of, is, f) = (marked m of, ap (option_map (marked m))
 
 pub at_server : (i : ℕ) (s : SecurityContext) (first : ℕ) (g : server.History) (ts : List server.TicketValues) (event : server.Event) (entry : server.Entry) → HasNoneBeyond g
     → ServerAnswer g event entry → IsOfThese i ts event entry → IsFitting s first (server.life g i) → IsFitting s first (server.life (server.Then g event entry) i)
-at_server i s first g ts (server.Add context start size) (server.Added index) none row of_these f =
+at_server i s first g ts (server.Add context start size places) (server.Added index) none row of_these f =
     cond_both (i == index) (Some (born context start size)) (server.life g i) (IsFitting s first)
     (λ e.
     let next : index ≡ server.added g = row.1.2 in
@@ -116,6 +116,9 @@ at_server i s first g ts (server.Notify t p room) (server.Replied bytes) none ro
 at_server i s first g ts (server.Restart j next) server.Restarted none row of_these (of, is, f) =
     cond_both (i == j) (option_map (renewed next) (server.life g i)) (server.life g i) (IsFitting s first)
     (λ e. (renewed next of, ap (option_map (renewed next)) is, after_restart s first next of f)) (λ e. (of, is, f))
+at_server i s first g ts (server.Replace context by start size) server.Replaced none row of_these f =
+    cond_both (i == context) (option_map (succeeding by start size) (server.life g i)) (server.life g i) (IsFitting s first)
+    (λ e. absurd (of_these (sym (eqb-true i context e)))) (λ e. f)
 at_server i s first g ts (server.Skip context count) server.Skipped none row of_these f =
     marked_fits s first (server.life g i) (server.skip_mark_at i context count) (skips i first context count) f
 at_server i s first g ts event entry none row of_these f = f
@@ -179,7 +182,7 @@ wide_by_one false i first t ts o e w = record {
 pub wide_at_server : (i first : ℕ) (x : Exchange) (event : server.Event) (entry : server.Entry) → HasNoneBeyond (server_of x) → ServerAnswer (server_of x) event entry
     → IsOfThese i (tickets x) event entry → (StaysOpen i x → IsWide i first (tickets x) (server.life (server_of x) i)) → StaysOpen i (Then x (AtServer event entry))
     → IsWide i first (tickets x) (server.life (server.Then (server_of x) event entry) i)
-wide_at_server i first x (server.Add context start size) (server.Added index) none row of_these is stays =
+wide_at_server i first x (server.Add context start size places) (server.Added index) none row of_these is stays =
     let g = server_of x in
     let w = is stays in
     cond_both (i == index) (Some (born context start size)) (server.life g i) (IsWide i first (tickets x))
@@ -196,6 +199,9 @@ wide_at_server i first x (server.Notify t p room) (server.Replied bytes) none ro
 wide_at_server i first x (server.Restart j next) server.Restarted none row of_these is (stays, apart) =
     cond_both (i == j) (option_map (renewed next) (server.life (server_of x) i)) (server.life (server_of x) i) (IsWide i first (tickets x))
     (λ e. absurd (apart (eqb-true i j e))) (λ e. is stays)
+wide_at_server i first x (server.Replace context by start size) server.Replaced none row of_these is stays =
+    cond_both (i == context) (option_map (succeeding by start size) (server.life (server_of x) i)) (server.life (server_of x) i) (IsWide i first (tickets x))
+    (λ e. absurd (of_these (sym (eqb-true i context e)))) (λ e. is stays)
 wide_at_server i first x (server.Skip context count) server.Skipped none row of_these is stays =
     still_wide (server.skip_mark_at i context count) i first (tickets x) (server.life (server_of x) i) (skips i 0 context count) (is stays)
 wide_at_server i first x event entry none row of_these is stays = is stays

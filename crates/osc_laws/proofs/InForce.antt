@@ -11,10 +11,10 @@ use Rattle.osc_window.specs.Gate.{challenge_in_force}
 use Rattle.osc_life.specs.declared.start.Start.{Start}
 use Rattle.osc_life.specs.declared.start.Start.TheVariants.{Fresh, Received, Reserved, Restarted as ByRestart}
 use Rattle.osc_laws.specs.Laws.{AllAnswers}
-use Rattle.osc_life.specs.Life.{Answered, Challenged, Delivered, Life, Mark, PassedOver, Spoiled, born, challenge, in_force, is_open, marked, renewed}
+use Rattle.osc_life.specs.Life.{Answered, Challenged, Delivered, Life, Mark, PassedOver, Spoiled, born, challenge, in_force, is_open, marked, renewed, succeeding}
 use Rattle.osc_endpoint.specs.ServerAnswer.{MeetsRow, arrival}
 use Rattle.osc_life.specs.LifeAnswer.{challenge_given}
-use Rattle.osc_life.specs.ServerHistory.{Add, Added, Answer, BadInner, Begin, Challenge, Datagram, Deliver, History, Notify, Replied, Reply, Restart, Restarted, Skip, Skipped, Then, TicketValues, Took, clock, life, mark_at, reply_mark_at}
+use Rattle.osc_life.specs.ServerHistory.{Add, Added, Answer, BadInner, Begin, Challenge, Datagram, Deliver, History, Notify, Replace, Replaced, Replied, Reply, Restart, Restarted, Skip, Skipped, Then, TicketValues, Took, clock, life, mark_at, reply_mark_at}
 
 -- where the mark is a challenge, it serves from this moment on until its time is over
 abbrev Serves : Option (List ℕ × ℕ) → ℕ → Mark → Type 0
@@ -94,6 +94,10 @@ renewed_serves : (o : Option Life) (next from : ℕ) → LifeServes (option_map 
 renewed_serves None next from = tt
 renewed_serves (Some of) next from = All-nil (Serves None from)
 
+succeeding_serves : (o : Option Life) (s : SecurityContext) (start : Start) (size : WindowSize) (from : ℕ) → LifeServes (option_map (succeeding s start size) o) from
+succeeding_serves None s start size from = tt
+succeeding_serves (Some of) s start size from = born_serves s start size from
+
 marked_other : (o : Option Life) (mark : Mark) (from : ℕ) → IsOther mark → LifeServes o from → LifeServes (option_map (marked (Some mark)) o) from
 marked_other None mark from is h = tt
 marked_other (Some of) mark from is h = other mark of.marks from is h
@@ -138,13 +142,15 @@ replied i t own o from h = marked_if (own && (i == t.context)) o Answered from (
 
 all_serve : (h : History) → AllAnswers h → (i : ℕ) → LifeServes (life h i) (clock h)
 all_serve Begin all i = tt
-all_serve (Then h (Add s start size) (Added index)) all i =
+all_serve (Then h (Add s start size places) (Added index)) all i =
     cond_both (i == index) (Some (born s start size)) (life h i) (λ o. LifeServes o (clock h)) (λ e. born_serves s start size (clock h)) (λ e. all_serve h all.0 i)
 all_serve (Then h (Datagram now echo mid d) (Took answer reply)) all i = answered h i now echo mid d answer all.1.0 (all_serve h all.0 i)
 all_serve (Then h (Reply t own mid plain room) (Replied bytes)) all i = replied i t own (life h i) (clock h) (all_serve h all.0 i)
 all_serve (Then h (Notify t plain room) (Replied bytes)) all i = replied i t true (life h i) (clock h) (all_serve h all.0 i)
 all_serve (Then h (Restart context next) Restarted) all i =
     cond_both (i == context) (option_map (renewed next) (life h i)) (life h i) (λ o. LifeServes o (clock h)) (λ e. renewed_serves (life h i) next (clock h)) (λ e. all_serve h all.0 i)
+all_serve (Then h (Replace context s start size) Replaced) all i =
+    cond_both (i == context) (option_map (succeeding s start size) (life h i)) (life h i) (λ o. LifeServes o (clock h)) (λ e. succeeding_serves (life h i) s start size (clock h)) (λ e. all_serve h all.0 i)
 all_serve (Then h (Skip context count) Skipped) all i =
     marked_if (i == context) (life h i) (PassedOver count) (clock h) (λ e. marked_other (life h i) (PassedOver count) (clock h) tt (all_serve h all.0 i)) (all_serve h all.0 i)
 all_serve (Then h event entry) all i = life_later (life h i) (clock h) (clock (Then h event entry)) (omega arith) (all_serve h all.0 i)

@@ -9,16 +9,18 @@ use Rattle.osc_window.specs.declared.window_size.WindowSize.{WindowSize}
 use Rattle.osc_protect.specs.Laws.{ProtectionsShowHeads}
 use Rattle.osc_protect.specs.Protection.{responses_to}
 use Rattle.osc_protect.specs.Sealed.{IsSealed}
+use Rattle.osc_life.specs.declared.server_error.ReplaceError.{ReplaceError}
 use Rattle.osc_life.specs.declared.server_error.RestartError.{RestartError}
 use Rattle.osc_life.specs.declared.server_error.SkipError.{SkipError}
 use Rattle.osc_life.specs.declared.start.Start.{Start}
 use Rattle.osc_life.specs.declared.start.Start.TheVariants as starts
 use Rattle.osc_laws.specs.AnswerLaws.{SealedHeads}
 use Rattle.osc_laws.specs.Laws.{Text, HasOwnNumber, texts, text_in, passed_over}
-use Rattle.osc_life.specs.Life.{HasOwn, Mark, Delivered, Spoiled, Challenged, Answered, PassedOver, Life, own_count, next_own, marked, born, renewed}
+use Rattle.osc_life.specs.Life.{HasOwn, Mark, Delivered, Spoiled, Challenged, Answered, PassedOver, Life, own_count, next_own, marked, born, renewed, succeeding}
 use Rattle.osc_endpoint.specs.ServerAnswer.{IsContext, ServerAnswer}
-use Rattle.osc_life.specs.LifeAnswer.{LifeRestart, LifeSkip}
-use Rattle.osc_life.specs.ServerHistory.{History, Begin, Then, Event, Entry, TicketValues, Add, Datagram, Reply, Notify, Restart, Skip, Advance, BadInner, Challenge, Deliver, Added, NotAdded, Took, Replied, NotReplied, Restarted, NotRestarted, Skipped, NotSkipped, Advanced, added, life}
+use Rattle.osc_life.specs.LifeAnswer.{LifeReplace, LifeRestart, LifeSkip}
+use Rattle.osc_life.specs.ServerHistory.{History, Begin, Then, Event, Entry, TicketValues, Add, Datagram, Reply, Notify, Restart, Replace, Skip, Advance, BadInner, Challenge, Deliver, Added, NotAdded, Took, Replied, NotReplied, Restarted, NotRestarted, Replaced, NotReplaced, Skipped, NotSkipped, Advanced, added, life}
+use Rattle.osc_laws.proofs.DeliveredNumbers.{no_other}
 
 -- of a life: its context, how many were before it, its first Sender Sequence Number, how many are behind that, and how many of those were passed over
 pub record Kept : Type 0 where
@@ -77,13 +79,18 @@ pub record IsAddition (a b : Image) : Type 0 where
   pub texts : b.texts ≡ a.texts
   pub answered : b.answered ≡ a.answered
 
+-- one life more begins in the place of a context, of that context or of another
 pub record IsRestart (a b : Image) : Type 0 where
   pub index : ℕ
   pub old : Kept
   pub was : a.lives index ≡ Some old
-  pub next : ℕ
+  pub begins : Kept
+  pub context : IsContext old.context → IsContext begins.context
+  pub count : begins.count ≡ old.count + 1
+  pub used : begins.used ≡ 0
+  pub passed : begins.passed ≡ 0
   pub added : b.added ≡ a.added
-  pub changes : Changes a b index (record { context = old.context; count = old.count + 1; first = next; used = 0; passed = 0 })
+  pub changes : Changes a b index begins
   pub texts : b.texts ≡ a.texts
   pub answered : b.answered ≡ a.answered
 
@@ -187,10 +194,10 @@ kept_skipped : (b : Bool) (count : ℕ) (o : Option Life) (l : Life) → (b ≡ 
 kept_skipped true count o l is = ap (λ (x : Option Life). option_map kept (option_map (marked (Some (PassedOver count))) x)) (is refl)
 kept_skipped false count o l is = kept_same o None tt
 
-kept_restarted : (b : Bool) (next : ℕ) (o : Option Life) (l : Life) → (b ≡ true → o ≡ Some l)
-    → option_map kept (if b then option_map (renewed next) o else o) ≡ (if b then Some (kept (renewed next l)) else option_map kept o)
-kept_restarted true next o l is = ap (λ (x : Option Life). option_map kept (option_map (renewed next) x)) (is refl)
-kept_restarted false next o l is = refl
+kept_followed : (f : Life → Life) (b : Bool) (o : Option Life) (l : Life) → (b ≡ true → o ≡ Some l)
+    → option_map kept (if b then option_map f o else o) ≡ (if b then Some (kept (f l)) else option_map kept o)
+kept_followed f true o l is = ap (λ (x : Option Life). option_map kept (option_map f x)) (is refl)
+kept_followed f false o l is = refl
 
 kept_added : (b : Bool) (l : Life) (o : Option Life) → option_map kept (if b then Some l else o) ≡ (if b then Some (kept l) else option_map kept o)
 kept_added true l o = refl
@@ -244,9 +251,36 @@ restarted h i next l is = Restarts (record {
   index = i;
   old = kept l;
   was = ap (option_map kept) is;
-  next = next;
+  begins = kept (renewed next l);
+  context = λ is. is;
+  count = refl;
+  used = refl;
+  passed = refl;
   added = refl;
-  changes = λ j. kept_restarted (j == i) next (life h j) l (λ e. ap (life h) (eqb-true j i e) ∙ is);
+  changes = λ j. kept_followed (renewed next) (j == i) (life h j) l (λ e. ap (life h) (eqb-true j i e) ∙ is);
+  texts = refl;
+  answered = refl;
+})
+
+replace_rows : (o : Option Life) (P : Entry → Type 0) (entry : Entry) → LifeReplace o entry → ((l : Life) → o ≡ Some l → P Replaced) → ((e : ReplaceError) → P (NotReplaced e)) → P entry
+replace_rows None P (NotReplaced e) r here none = none e
+replace_rows (Some l) P (NotReplaced e) r here none = none e
+replace_rows (Some l) P Replaced r here none = here l refl
+replace_rows o P entry r here none = absurd r
+
+replaced : (h : History) (i : ℕ) (s : SecurityContext) (start : Start) (size : WindowSize) (l : Life) → life h i ≡ Some l → IsContext s
+    → Steps (image h) (image (Then h (Replace i s start size) Replaced))
+replaced h i s start size l is context = Restarts (record {
+  index = i;
+  old = kept l;
+  was = ap (option_map kept) is;
+  begins = kept (succeeding s start size l);
+  context = λ _. subst IsContext (sym (born_context s start size)) context;
+  count = refl;
+  used = born_unused s start size;
+  passed = born_over s start size;
+  added = refl;
+  changes = λ j. kept_followed (succeeding s start size) (j == i) (life h j) l (λ e. ap (life h) (eqb-true j i e) ∙ is);
   texts = refl;
   answered = refl;
 })
@@ -274,7 +308,7 @@ text_at : (h : History) (i n : ℕ) (own : Bool) (l : Life) (bytes : List ℕ) �
 text_at h i n own l bytes is = ap (λ (o : Option Life). text_in o i n own bytes ++ texts h) is
 
 pub steps : SealedHeads → (h : History) (event : Event) (entry : Entry) → ServerAnswer h event entry → Steps (image h) (image (Then h event entry))
-steps shows h (Add s start size) (Added index) (context, (room, free, is)) = Adds (record {
+steps shows h (Add s start size places) (Added index) (context, (room, free, is)) = Adds (record {
   first = kept (born s start size);
   context = subst IsContext (sym (born_context s start size)) context;
   used = born_unused s start size;
@@ -284,8 +318,8 @@ steps shows h (Add s start size) (Added index) (context, (room, free, is)) = Add
   texts = refl;
   answered = refl;
 })
-steps shows h (Add s start size) (NotAdded e) row = same (image h)
-steps shows h (Add s start size) entry row = absurd row.1
+steps shows h (Add s start size places) (NotAdded e) row = same (image h)
+steps shows h (Add s start size places) entry row = absurd row.1
 steps shows h (Datagram now echo mid d) (Took (Challenge i n given issued) reply) ((j, m, l, request, (wants, has, given_is, index, number)), (of, is, says)) =
     let same_life : l ≡ of = let e : Some l ≡ Some of = sym request.life_is ∙ ap (life h) (sym index) ∙ is in cc in
     let text : Text = record { context = i; life = of.count; keys = of.context; request = n; own = Some (next_own of); bytes = reply } in
@@ -367,6 +401,10 @@ steps shows h (Restart i next) entry row = elim (restart_rows (life h i) entry r
       subst (λ (x : Entry). Steps (image h) (image (Then h (Restart i next) x))) (sym r.1)
       (same (image h))
 ]
+steps shows h (Replace i s start size) Replaced (context, (left, free, differs)) =
+    replace_rows (life h i) (λ x. Steps (image h) (image (Then h (Replace i s start size) x))) Replaced left (λ l is. replaced h i s start size l is context) (λ e. same (image h))
+steps shows h (Replace i s start size) (NotReplaced e) row = same (image h)
+steps shows h (Replace i s start size) entry row = absurd (no_other (life h i) entry tt row.1)
 steps shows h (Skip i count) entry row = elim (skip_rows (life h i) count entry row) [
   | inl r ↦ subst (λ (x : Entry). Steps (image h) (image (Then h (Skip i count) x))) (sym r.2) (over h i count r.0 r.1)
   | inr r ↦

@@ -9,6 +9,7 @@ use Rattle.osc_protect.specs.Refusals.{Names}
 use Rattle.osc_protect.specs.declared.head_error.HeadError.{HeadError}
 use Rattle.osc_protect.specs.declared.head_error.HeadError.TheVariants as heads
 use Rattle.osc_life.specs.declared.server_error.AddError.TheVariants.{Full, SameLookup}
+use Rattle.osc_life.specs.declared.server_error.ReplaceError.TheVariants as replaces
 use Rattle.osc_life.specs.declared.server_error.ReplyError.TheVariants.{NotObserving, StaleTicket}
 use Rattle.osc_life.specs.declared.server_error.RestartError.TheVariants.{NoSuchContext, LivesExhausted}
 use Rattle.osc_endpoint.specs.Agrees.{OneEach}
@@ -16,31 +17,33 @@ use Rattle.osc_laws.specs.AnswerLaws.{AnswerLaws}
 use Rattle.osc_laws.specs.Laws.{OneServerAnswer}
 use Rattle.osc_life.specs.Life.{Life}
 use Rattle.osc_life.specs.Replies.{as_reply, bad_tag, no_context, replay, undecodable}
-use Rattle.osc_endpoint.specs.ServerAnswer.{AddAnswer, IsPresent, IsRequestOf, MeetsNamedRow, MeetsRow, NamesNone, NotifyAnswer, OfTicket, ReplyAnswer, SaysReply, ServerAnswer, TakeAnswer, arrival}
+use Rattle.osc_endpoint.specs.ServerAnswer.{AddAnswer, IsPresent, IsRequestOf, MeetsNamedRow, MeetsRow, NamesNone, NotifyAnswer, OfTicket, ReplaceAnswer, ReplyAnswer, SaysReply, ServerAnswer, TakeAnswer, arrival}
+use Rattle.osc_life.specs.declared.server_error.ReplaceError.{ReplaceError}
 use Rattle.osc_life.specs.declared.server_error.SkipError.TheVariants as skips
-use Rattle.osc_life.specs.LifeAnswer.{Arrival, LifeNotify, LifeReply, LifeRestart, LifeSkip, MeetsLifeRow, SaysChallenge, as_notification}
-use Rattle.osc_life.specs.ServerHistory.{Add, Added, Advance, Advanced, Answer, BadTag, Challenge, Datagram, Entry, Event, History, Malformed, NoContext, NotAdded, NotReplied, NotRequest, NotRestarted, NotSkipped, Notify, Plain, Replay, Reply, Restart, Restarted, Skip, Skipped, TicketValues, Took, Undecodable, life}
+use Rattle.osc_life.specs.LifeAnswer.{Arrival, LifeNotify, LifeReplace, LifeReply, LifeRestart, LifeSkip, MeetsLifeRow, SaysChallenge, as_notification}
+use Rattle.osc_life.specs.ServerHistory.{Add, Added, Advance, Advanced, Answer, BadTag, Challenge, Datagram, Entry, Event, History, Malformed, NoContext, NotAdded, NotReplaced, NotReplied, NotRequest, NotRestarted, NotSkipped, Notify, Plain, Replace, Replaced, Replay, Reply, Restart, Restarted, Skip, Skipped, TicketValues, Took, Undecodable, life}
 use Rattle.osc_endpoint.proofs.Deliveries.{IsSame, same_named}
 use Rattle.osc_laws.proofs.ContextsApart.{contexts_differ}
+use Rattle.osc_laws.proofs.DeliveredNumbers.{no_other}
 use Rattle.osc_laws.proofs.LifeAnswers.{one_challenge, one_error, one_life_row}
 use Rattle.osc_laws.proofs.LifeReplies.{one_life_notification, one_life_reply}
 
 -- ---- additions and restarts
 
-one_add : (h : History) (s : SecurityContext) (x y : Entry) → AddAnswer h s x → AddAnswer h s y → x ≡ y
-one_add h s (NotAdded Full) (NotAdded Full) x y = refl
-one_add h s (NotAdded Full) (NotAdded SameLookup) x y = absurd (omega (arith, x, y.0))
-one_add h s (NotAdded Full) (Added j) x y = absurd (omega (arith, x, y.0))
-one_add h s (NotAdded SameLookup) (NotAdded Full) x y = absurd (omega (arith, x.0, y))
-one_add h s (NotAdded SameLookup) (NotAdded SameLookup) x y = refl
-one_add h s (NotAdded SameLookup) (Added j) x y = absurd (y.1 x.1)
-one_add h s (Added i) (NotAdded Full) x y = absurd (omega (arith, x.0, y))
-one_add h s (Added i) (NotAdded SameLookup) x y = absurd (x.1 y.1)
-one_add h s (Added i) (Added j) x y = ap Added (x.2 ∙ sym y.2)
-one_add h s (NotAdded Full) entry x y = absurd y
-one_add h s (NotAdded SameLookup) entry x y = absurd y
-one_add h s (Added i) entry x y = absurd y
-one_add h s entry other x y = absurd x
+one_add : (h : History) (s : SecurityContext) (places : ℕ) (x y : Entry) → AddAnswer h s places x → AddAnswer h s places y → x ≡ y
+one_add h s places (NotAdded Full) (NotAdded Full) x y = refl
+one_add h s places (NotAdded Full) (NotAdded SameLookup) x y = absurd (omega (arith, x, y.0))
+one_add h s places (NotAdded Full) (Added j) x y = absurd (omega (arith, x, y.0))
+one_add h s places (NotAdded SameLookup) (NotAdded Full) x y = absurd (omega (arith, x.0, y))
+one_add h s places (NotAdded SameLookup) (NotAdded SameLookup) x y = refl
+one_add h s places (NotAdded SameLookup) (Added j) x y = absurd (y.1 x.1)
+one_add h s places (Added i) (NotAdded Full) x y = absurd (omega (arith, x.0, y))
+one_add h s places (Added i) (NotAdded SameLookup) x y = absurd (x.1 y.1)
+one_add h s places (Added i) (Added j) x y = ap Added (x.2 ∙ sym y.2)
+one_add h s places (NotAdded Full) entry x y = absurd y
+one_add h s places (NotAdded SameLookup) entry x y = absurd y
+one_add h s places (Added i) entry x y = absurd y
+one_add h s places entry other x y = absurd x
 
 one_restart : (o : Option Life) (x y : Entry) → LifeRestart o x → LifeRestart o y → x ≡ y
 one_restart None (NotRestarted NoSuchContext) (NotRestarted NoSuchContext) x y = refl
@@ -52,6 +55,55 @@ one_restart None (NotRestarted NoSuchContext) entry x y = absurd y
 one_restart (Some of) (NotRestarted LivesExhausted) entry x y = absurd y
 one_restart (Some of) Restarted entry x y = absurd y
 one_restart o entry other x y = absurd x
+
+-- the row of a life, and the other rows of a replacement, which stand behind it
+one_life_replaced : (o : Option Life) (x y : Entry) → LifeReplace o x → LifeReplace o y → x ≡ y
+one_life_replaced None (NotReplaced replaces.NoSuchContext) (NotReplaced replaces.NoSuchContext) x y = refl
+one_life_replaced (Some of) (NotReplaced replaces.LivesExhausted) (NotReplaced replaces.LivesExhausted) x y = refl
+one_life_replaced (Some of) (NotReplaced replaces.LivesExhausted) Replaced x y = absurd (omega (arith, x, y))
+one_life_replaced (Some of) Replaced (NotReplaced replaces.LivesExhausted) x y = absurd (omega (arith, x, y))
+one_life_replaced (Some of) Replaced Replaced x y = refl
+one_life_replaced None (NotReplaced replaces.NoSuchContext) entry x y = absurd y
+one_life_replaced (Some of) (NotReplaced replaces.LivesExhausted) entry x y = absurd y
+one_life_replaced (Some of) Replaced entry x y = absurd y
+one_life_replaced o entry other x y = absurd x
+
+-- a life that can begin isn't refused
+none_refused : {A : Type 0} (o : Option Life) (e : ReplaceError) → LifeReplace o Replaced → LifeReplace o (NotReplaced e) → A
+none_refused o e left row = absurd (let same : Replaced ≡ NotReplaced e = one_life_replaced o Replaced (NotReplaced e) left row in cc)
+
+one_replace : (lives : ℕ → Option Life) (i : ℕ) (s : SecurityContext) (x y : Entry) → ReplaceAnswer lives i s x → ReplaceAnswer lives i s y → x ≡ y
+one_replace lives i s (NotReplaced replaces.NoSuchContext) (NotReplaced replaces.NoSuchContext) x y = refl
+one_replace lives i s (NotReplaced replaces.NoSuchContext) (NotReplaced replaces.LivesExhausted) x y = one_life_replaced (lives i) (NotReplaced replaces.NoSuchContext) (NotReplaced replaces.LivesExhausted) x y
+one_replace lives i s (NotReplaced replaces.NoSuchContext) (NotReplaced replaces.SameLookup) x y = none_refused (lives i) replaces.NoSuchContext y.0 x
+one_replace lives i s (NotReplaced replaces.NoSuchContext) (NotReplaced replaces.SameSender) x y = none_refused (lives i) replaces.NoSuchContext y.0 x
+one_replace lives i s (NotReplaced replaces.NoSuchContext) Replaced x y = none_refused (lives i) replaces.NoSuchContext y.0 x
+one_replace lives i s (NotReplaced replaces.NoSuchContext) entry x y = absurd (no_other (lives i) entry tt y)
+one_replace lives i s (NotReplaced replaces.LivesExhausted) (NotReplaced replaces.NoSuchContext) x y = one_life_replaced (lives i) (NotReplaced replaces.LivesExhausted) (NotReplaced replaces.NoSuchContext) x y
+one_replace lives i s (NotReplaced replaces.LivesExhausted) (NotReplaced replaces.LivesExhausted) x y = refl
+one_replace lives i s (NotReplaced replaces.LivesExhausted) (NotReplaced replaces.SameLookup) x y = none_refused (lives i) replaces.LivesExhausted y.0 x
+one_replace lives i s (NotReplaced replaces.LivesExhausted) (NotReplaced replaces.SameSender) x y = none_refused (lives i) replaces.LivesExhausted y.0 x
+one_replace lives i s (NotReplaced replaces.LivesExhausted) Replaced x y = none_refused (lives i) replaces.LivesExhausted y.0 x
+one_replace lives i s (NotReplaced replaces.LivesExhausted) entry x y = absurd (no_other (lives i) entry tt y)
+one_replace lives i s (NotReplaced replaces.SameLookup) (NotReplaced replaces.NoSuchContext) x y = none_refused (lives i) replaces.NoSuchContext x.0 y
+one_replace lives i s (NotReplaced replaces.SameLookup) (NotReplaced replaces.LivesExhausted) x y = none_refused (lives i) replaces.LivesExhausted x.0 y
+one_replace lives i s (NotReplaced replaces.SameLookup) (NotReplaced replaces.SameLookup) x y = refl
+one_replace lives i s (NotReplaced replaces.SameLookup) (NotReplaced replaces.SameSender) x y = absurd (y.1 x.1)
+one_replace lives i s (NotReplaced replaces.SameLookup) Replaced x y = absurd (y.1 x.1)
+one_replace lives i s (NotReplaced replaces.SameLookup) entry x y = absurd (no_other (lives i) entry tt y)
+one_replace lives i s (NotReplaced replaces.SameSender) (NotReplaced replaces.NoSuchContext) x y = none_refused (lives i) replaces.NoSuchContext x.0 y
+one_replace lives i s (NotReplaced replaces.SameSender) (NotReplaced replaces.LivesExhausted) x y = none_refused (lives i) replaces.LivesExhausted x.0 y
+one_replace lives i s (NotReplaced replaces.SameSender) (NotReplaced replaces.SameLookup) x y = absurd (x.1 y.1)
+one_replace lives i s (NotReplaced replaces.SameSender) (NotReplaced replaces.SameSender) x y = refl
+one_replace lives i s (NotReplaced replaces.SameSender) Replaced x y = absurd (y.2 x.2)
+one_replace lives i s (NotReplaced replaces.SameSender) entry x y = absurd (no_other (lives i) entry tt y)
+one_replace lives i s Replaced (NotReplaced replaces.NoSuchContext) x y = none_refused (lives i) replaces.NoSuchContext x.0 y
+one_replace lives i s Replaced (NotReplaced replaces.LivesExhausted) x y = none_refused (lives i) replaces.LivesExhausted x.0 y
+one_replace lives i s Replaced (NotReplaced replaces.SameLookup) x y = absurd (x.1 y.1)
+one_replace lives i s Replaced (NotReplaced replaces.SameSender) x y = absurd (x.2 y.2)
+one_replace lives i s Replaced Replaced x y = refl
+one_replace lives i s Replaced entry x y = absurd (no_other (lives i) entry tt y)
+one_replace lives i s entry other x y = absurd (no_other (lives i) entry tt x)
 
 one_skip : (o : Option Life) (count : ℕ) (x y : Entry) → LifeSkip o count x → LifeSkip o count y → x ≡ y
 one_skip None count (NotSkipped skips.NoSuchContext) (NotSkipped skips.NoSuchContext) x y = refl
@@ -232,7 +284,7 @@ module _ (laws : AnswerLaws) (h : History) (a : Arrival) where
 -- ---- events
 
 one_answer : AnswerLaws → (h : History) (event : Event) (x y : Entry) → OneEach h → ServerAnswer h event x → ServerAnswer h event y → x ≡ y
-one_answer laws h (Add s start size) x y each row other = one_add h s x y row.1 other.1
+one_answer laws h (Add s start size places) x y each row other = one_add h s places x y row.1 other.1
 one_answer laws h (Datagram now echo mid d) (Took x r) (Took y s) each row other =
     one_take laws h (arrival h now echo mid d) x y r s each row other
 one_answer laws h (Datagram now echo mid d) (Took x r) y each row other = absurd other
@@ -240,6 +292,7 @@ one_answer laws h (Datagram now echo mid d) x y each row other = absurd row
 one_answer laws h (Reply t own mid plain room) x y each row other = one_reply laws h t own (as_reply t.kind t.message_id t.token mid plain) room x y row other
 one_answer laws h (Notify t plain room) x y each row other = one_notify laws h t (as_notification t.token plain) room x y row other
 one_answer laws h (Restart i next) x y each row other = one_restart (life h i) x y row other
+one_answer laws h (Replace i s start size) x y each row other = one_replace (life h) i s x y row.1 other.1
 one_answer laws h (Skip i count) x y each row other = one_skip (life h i) count x y row other
 one_answer laws h (Advance now) Advanced Advanced each row other = refl
 one_answer laws h (Advance now) Advanced y each row other = absurd other

@@ -41,12 +41,12 @@ one_more i c t ts context life own =
 
 -- ---- what holds of each history
 
--- the text is of a life of its context, the present one or an earlier
+-- the text is of a life of its context, the present one, whose keys it has, or an earlier
 pub record IsOfLife (lives : ℕ → Option Kept) (t : Text) : Type 0 where
   pub present : Kept
   pub is : lives t.context ≡ Some present
   pub within : t.life ≤ present.count
-  pub keys : t.keys ≡ present.context
+  pub keys : t.life ≡ present.count → t.keys ≡ present.context
 
 -- the texts have Sender Sequence Numbers of the life that rise, and where none was passed over all that it used
 abbrev pub IsNumbered : Kept → List Text → Type 0
@@ -98,28 +98,28 @@ module _ (a b : Image) (i : ℕ) (k : Kept) (changes : Changes a b i k) where
     | inr p ↦ c.contexts j l (sym p.1 ∙ is)
   ]
 
-  kept_text : ((l : Kept) → a.lives i ≡ Some l → (l.count ≤ k.count) × (l.context ≡ k.context)) → (t : Text) → IsOfLife a.lives t → IsOfLife b.lives t
+  kept_text : ((l : Kept) → a.lives i ≡ Some l → (l.count ≤ k.count) × (l.count ≡ k.count → l.context ≡ k.context)) → (t : Text) → IsOfLife a.lives t → IsOfLife b.lives t
   kept_text grows t of = elim (place t.context) [
     | inl p ↦
         let g = grows of.present (ap a.lives (sym p.0) ∙ of.is) in
         let before = of.within in
         let after = g.0 in
-        record { present = k; is = p.1; within = omega arith; keys = of.keys ∙ g.1 }
+        record { present = k; is = p.1; within = omega arith; keys = λ e. let last : of.present.count ≡ k.count = omega (arith, before, after, e) in of.keys (e ∙ sym last) ∙ g.1 last }
     | inr p ↦ record { present = of.present; is = p.1 ∙ of.is; within = of.within; keys = of.keys }
   ]
 
 -- a life that begins, of a context that is added or was there
 begun : (a b : Image) (i : ℕ) (k : Kept) → Changes a b i k → IsCounted a → a.added ≤ b.added → (b.added ≤ i → ⊥) → IsContext k.context → k.used ≡ 0 → k.passed ≡ 0
-    → ((l : Kept) → a.lives i ≡ Some l → (l.count < k.count) × (l.context ≡ k.context)) → b.texts ≡ a.texts → IsCounted b
+    → ((l : Kept) → a.lives i ≡ Some l → l.count < k.count) → b.texts ≡ a.texts → IsCounted b
 begun a b i k changes c more within context unused unpassed follows same = record {
   beyond = kept_beyond a b i k changes c more within;
   contexts = kept_contexts a b i k changes c context;
   told =
       subst (AllByRecursion (IsOfLife b.lives)) (sym same)
-      (all_weaker (IsOfLife a.lives) (IsOfLife b.lives) (kept_text a b i k changes (λ l is. let f = follows l is in let less = f.0 in (omega arith, f.1))) a.texts c.told);
+      (all_weaker (IsOfLife a.lives) (IsOfLife b.lives) (kept_text a b i k changes (λ l is. let less = follows l is in (omega (arith, less), λ e. absurd (omega (arith, less, e))))) a.texts c.told);
   numbered = λ j l is. elim (place a b i k changes j) [
     | inl p ↦
-        let none : own_texts i k.count b.texts ≡ [] = ap (own_texts i k.count) same ∙ none_yet a.lives i k.count a.texts c.told (λ m e. (follows m e).0) in
+        let none : own_texts i k.count b.texts ≡ [] = ap (own_texts i k.count) same ∙ none_yet a.lives i k.count a.texts c.told follows in
         let first : IsNumbered k (own_texts i k.count b.texts) = subst (IsNumbered k) (sym none) (tt, λ e. (tt, sym unused)) in
         subst (λ (x : Kept). IsNumbered x (own_texts j x.count b.texts)) (same_Some k l (sym p.1 ∙ is))
         (subst (λ (x : ℕ). IsNumbered k (own_texts x k.count b.texts)) (sym p.0) first)
@@ -148,23 +148,22 @@ adds a b c s =
 restarts : (a b : Image) → IsCounted a → IsRestart a b → IsCounted b
 restarts a b c s =
     let same = s.added in
-    let begins : Kept = record { context = s.old.context; count = s.old.count + 1; first = s.next; used = 0; passed = 0 } in
-    begun a b s.index begins s.changes c (omega arith) (λ past. none-some s.old (sym (c.beyond s.index (omega arith)) ∙ s.was)) (c.contexts s.index s.old s.was) refl refl
-    (λ l is. let e : s.old ≡ l = same_Some s.old l (sym s.was ∙ is) in (subst (λ (x : Kept). x.count < s.old.count + 1) e (omega arith), sym (ap (λ (x : Kept). x.context) e))) s.texts
+    begun a b s.index s.begins s.changes c (omega arith) (λ past. none-some s.old (sym (c.beyond s.index (omega arith)) ∙ s.was)) (s.context (c.contexts s.index s.old s.was)) s.used s.passed
+    (λ l is. let e : s.old.count ≡ l.count = ap (λ (x : Kept). x.count) (same_Some s.old l (sym s.was ∙ is)) in let count = s.count in omega (arith, e, count)) s.texts
 
 numbers : (a b : Image) → IsCounted a → SealsNumbered a b → IsCounted b
 numbers a b c s =
     let same = s.added in
     let k : Kept = used_one s.old in
-    let grows : (l : Kept) → a.lives s.index ≡ Some l → (l.count ≤ k.count) × (l.context ≡ k.context) =
-    λ l is. let e : s.old ≡ l = same_Some s.old l (sym s.was ∙ is) in (subst (λ (x : Kept). x.count ≤ s.old.count) e (omega arith), sym (ap (λ (x : Kept). x.context) e)) in
+    let grows : (l : Kept) → a.lives s.index ≡ Some l → (l.count ≤ k.count) × (l.count ≡ k.count → l.context ≡ k.context) =
+    λ l is. let e : s.old ≡ l = same_Some s.old l (sym s.was ∙ is) in (subst (λ (x : Kept). x.count ≤ s.old.count) e (omega arith), λ _. sym (ap (λ (x : Kept). x.context) e)) in
     let before = c.numbered s.index s.old s.was in
     record {
       beyond = kept_beyond a b s.index k s.changes c (omega arith) (λ past. none-some s.old (sym (c.beyond s.index (omega arith)) ∙ s.was));
       contexts = kept_contexts a b s.index k s.changes c (c.contexts s.index s.old s.was);
       told =
           subst (AllByRecursion (IsOfLife b.lives)) (sym s.texts) (
-            record { present = k; is = ap b.lives s.of.context ∙ here a b s.index k s.changes; within = let e = s.of.life in omega arith; keys = s.of.keys },
+            record { present = k; is = ap b.lives s.of.context ∙ here a b s.index k s.changes; within = let e = s.of.life in omega arith; keys = λ _. s.of.keys },
             all_weaker (IsOfLife a.lives) (IsOfLife b.lives) (kept_text a b s.index k s.changes grows) a.texts c.told,
           );
       numbered = λ j l is. elim (place a b s.index k s.changes j) [
@@ -190,8 +189,8 @@ skips : (a b : Image) → IsCounted a → IsSkip a b → IsCounted b
 skips a b c s =
     let same = s.added in
     let k : Kept = skipped s.over s.old in
-    let grows : (l : Kept) → a.lives s.index ≡ Some l → (l.count ≤ k.count) × (l.context ≡ k.context) =
-    λ l is. let e : s.old ≡ l = same_Some s.old l (sym s.was ∙ is) in (subst (λ (x : Kept). x.count ≤ s.old.count) e (omega arith), sym (ap (λ (x : Kept). x.context) e)) in
+    let grows : (l : Kept) → a.lives s.index ≡ Some l → (l.count ≤ k.count) × (l.count ≡ k.count → l.context ≡ k.context) =
+    λ l is. let e : s.old ≡ l = same_Some s.old l (sym s.was ∙ is) in (subst (λ (x : Kept). x.count ≤ s.old.count) e (omega arith), λ _. sym (ap (λ (x : Kept). x.context) e)) in
     let before = c.numbered s.index s.old s.was in
     record {
       beyond = kept_beyond a b s.index k s.changes c (omega arith) (λ past. none-some s.old (sym (c.beyond s.index (omega arith)) ∙ s.was));
@@ -215,7 +214,7 @@ replies a b c s = record {
   contexts = λ i k is. c.contexts i k (sym (s.lives i) ∙ is);
   told =
       subst (AllByRecursion (IsOfLife b.lives)) (sym s.texts) (
-        record { present = s.old; is = s.lives s.text.context ∙ ap a.lives s.of.context ∙ s.was; within = let e = s.of.life in omega arith; keys = s.of.keys },
+        record { present = s.old; is = s.lives s.text.context ∙ ap a.lives s.of.context ∙ s.was; within = let e = s.of.life in omega arith; keys = λ _. s.of.keys },
         all_weaker (IsOfLife a.lives) (IsOfLife b.lives) (λ t of. record { present = of.present; is = s.lives t.context ∙ of.is; within = of.within; keys = of.keys }) a.texts c.told,
       );
   numbered = λ i k is.

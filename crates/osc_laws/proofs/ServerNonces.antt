@@ -1,6 +1,6 @@
 -- The nonces of what a server seals: two in one life of a context differ. a is what a history shows, b what it shows one answer later, t and u
 -- texts, x and y their own Partial IVs, n and m the numbers of their requests, s a security context, ws tickets.
-use Rattle.std.proofs.Common.{◌≡◌, ◌≢◌, ℕ, ◌+◌, ◌<◌, ◌≤◌, ◌^◌, ◌∙◌, sym, ap, subst, refl, arith, Bool, true, false, Option, Some, None, IfSome, List, [], ◌∷◌, ◌++◌, is_some, ◌==◌, ◌&&◌, ◌⊎◌, inl, inr}
+use Rattle.std.proofs.Common.{◌≡◌, ◌≢◌, ℕ, ◌+◌, ◌<◌, ◌≤◌, ◌^◌, ◌∙◌, sym, ap, subst, refl, arith, Bool, true, false, Option, Some, None, IfSome, List, [], ◌∷◌, is_some, ◌==◌, ◌&&◌, ◌⊎◌, inl, inr}
 use Rattle.std.proofs.lemmas.Bool.{cases_Bool, eq-eqb}
 use Rattle.std.proofs.lemmas.Option.{none-some, same_Some}
 use Rattle.std.specs.List.{AllByRecursion}
@@ -12,7 +12,8 @@ use Rattle.osc_laws.specs.Laws.{AllAnswers, AreApart, DeliveredOnce, HaveTwoNonc
 use Rattle.osc_life.specs.Life.{Life}
 use Rattle.osc_endpoint.specs.ServerAnswer.{IsContext}
 use Rattle.osc_life.specs.LifeAnswer.{LifeRestart, LifeSkip}
-use Rattle.osc_life.specs.ServerHistory.{History, Begin, Then, Add, Datagram, Reply, Notify, Restart, Skip, Advance, Deliver, Took, Replied, Answer, TicketValues, life}
+use Rattle.osc_life.specs.ServerHistory.{History, Begin, Then, Add, Datagram, Reply, Notify, Restart, Replace, Skip, Advance, Deliver, Took, Replied, Answer, TicketValues, life}
+use Rattle.osc_laws.proofs.DeliveredNumbers.{no_other}
 use Rattle.osc_laws.proofs.LifeCounts.{Kept, Image, answered_plainly, image, SealsNumbered, SealsPlain, Steps, Stays, Adds, Restarts, Skips, Numbers, Replies, steps}
 use Rattle.osc_laws.proofs.OwnNumbers.{IsCounted, IsOfLife, all_weaker, counted, is_own, passed_over, taken_up}
 use Rattle.osc_laws.proofs.Tickets.{all_answered, pairs_behind, tickets_once}
@@ -136,7 +137,7 @@ numbered_apart : OneNonce → (a b : Image) → IsCounted a → (s : SealsNumber
 numbered_apart one a b c s ws u of sound below context life =
     let same : of.present ≡ s.old = same_Some of.present s.old (sym of.is ∙ ap a.lives (sym context ∙ s.of.context) ∙ s.was) in
     let less = below (sym context ∙ s.of.context) (sym life ∙ s.of.life) in
-    two_nonces one s.old.context (c.contexts s.index s.old s.was) s.text u s.of.keys (of.keys ∙ ap (λ (k : Kept). k.context) same)
+    two_nonces one s.old.context (c.contexts s.index s.old s.was) s.text u s.of.keys (of.keys (sym life ∙ s.of.life ∙ sym (ap (λ (k : Kept). k.count) same)) ∙ ap (λ (k : Kept). k.context) same)
     (subst (λ (o : Option ℕ). IsInRange o s.text.request) (sym s.own.own) s.less) sound.in_range
     (subst (λ (o : Option ℕ). Differ o u.own s.text.request u.request) (sym s.own.own) (differ_own (s.old.first + s.old.used) u.own s.text.request u.request less))
 
@@ -149,7 +150,7 @@ plain_apart one a b c s less apart u of sound context life =
     λ none number.
     let found = ticket_of (AreApart s.ticket) u a.answered apart (sound.by_ticket none) in
     found.1 (sym s.of.context ∙ context ∙ sym found.2.context) (s.present ∙ sym s.of.life ∙ life ∙ sym found.2.life) (sym s.request ∙ number ∙ sym found.2.number) in
-    two_nonces one s.old.context (c.contexts s.ticket.context s.old s.was) s.text u s.of.keys (of.keys ∙ ap (λ (k : Kept). k.context) same)
+    two_nonces one s.old.context (c.contexts s.ticket.context s.old s.was) s.text u s.of.keys (of.keys (sym life ∙ s.of.life ∙ sym (ap (λ (k : Kept). k.count) same)) ∙ ap (λ (k : Kept). k.context) same)
     (subst (λ (o : Option ℕ). IsInRange o s.text.request) (sym s.own) (subst (λ (n : ℕ). n < 2 ^ 40) (sym s.request) less)) sound.in_range
     (subst (λ (o : Option ℕ). Differ o u.own s.text.request u.request) (sym s.own) (differ_plain u.own s.text.request u.request differ))
 
@@ -237,10 +238,11 @@ pub all_for : ValueNumberInRange → (h : History) → AllAnswers h → AllByRec
 all_for range Begin a = tt
 all_for range (Then h (Datagram now echo mid d) (Took (Deliver received ticket) reply)) (before, ((i, n, of, request, (receives, admits, values)), none)) =
     (subst IsFor (sym values) (range ((requests of.context).parts n) receives.protects.value receives.protects.reads), all_for range h before)
-all_for range (Then h (Add s start size) (Took (Deliver received ticket) reply)) a = absurd a.1.1
+all_for range (Then h (Add s start size places) (Took (Deliver received ticket) reply)) a = absurd a.1.1
 all_for range (Then h (Reply t own mid plain room) (Took (Deliver received ticket) reply)) a = absurd a.1.2
 all_for range (Then h (Notify t plain room) (Took (Deliver received ticket) reply)) a = absurd a.1.1.2
 all_for range (Then h (Restart i next) (Took (Deliver received ticket) reply)) a = absurd (no_restart (life h i) (Deliver received ticket) reply a.1)
+all_for range (Then h (Replace i s start size) (Took (Deliver received ticket) reply)) a = absurd (no_other (life h i) (Took (Deliver received ticket) reply) tt a.1.1)
 all_for range (Then h (Skip i count) (Took (Deliver received ticket) reply)) a = absurd (no_skip (life h i) count (Deliver received ticket) reply a.1)
 all_for range (Then h (Advance now) (Took (Deliver received ticket) reply)) a = absurd a.1
 all_for range (Then h event entry) a = all_for range h a.0

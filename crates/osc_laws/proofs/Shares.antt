@@ -8,11 +8,11 @@ use Rattle.osc_protect.specs.Protection.{requests}
 use Rattle.osc_protect.specs.Refusals.{Names}
 use Rattle.osc_context.specs.SecurityContext.{SecurityContext}
 use Rattle.osc_laws.specs.Laws.{AllAnswers}
-use Rattle.osc_life.specs.Life.{Life, Mark, born, marked, renewed}
+use Rattle.osc_life.specs.Life.{Life, Mark, born, marked, renewed, succeeding}
 use Rattle.osc_life.specs.Replies.{as_reply}
-use Rattle.osc_endpoint.specs.ServerAnswer.{AddAnswer, IsTaken, MeetsNamedRow, MeetsRow, NamesNone, NotifyAnswer, ReplyAnswer, SaysReply, TakeAnswer, arrival}
-use Rattle.osc_life.specs.LifeAnswer.{Arrival, LifeRestart, LifeSkip, MeetsLifeRow, as_notification}
-use Rattle.osc_life.specs.ServerHistory.{Add, Added, Advance, Advanced, Answer, BadInner, BadTag, Begin, Challenge, Datagram, Deliver, Entry, History, Malformed, NoContext, NotReplied, NotRequest, Notify, Plain, Replay, Replied, Reply, Restart, Restarted, Skip, Skipped, SequenceExhausted, Then, TicketValues, Took, Undecodable, added, clock, life, mark_at, reply_mark_at, skip_mark_at}
+use Rattle.osc_endpoint.specs.ServerAnswer.{AddAnswer, HasSenderIn, IsTaken, IsTakenBeside, MeetsNamedRow, MeetsRow, NamesNone, NotifyAnswer, ReplaceAnswer, ReplyAnswer, SaysReply, TakeAnswer, arrival}
+use Rattle.osc_life.specs.LifeAnswer.{Arrival, LifeReplace, LifeRestart, LifeSkip, MeetsLifeRow, as_notification}
+use Rattle.osc_life.specs.ServerHistory.{Add, Added, Advance, Advanced, Answer, BadInner, BadTag, Begin, Challenge, Datagram, Deliver, Entry, History, Malformed, NoContext, NotReplied, NotRequest, Notify, Plain, Replace, Replaced, Replay, Replied, Reply, Restart, Restarted, Skip, Skipped, SequenceExhausted, Then, TicketValues, Took, Undecodable, added, clock, life, mark_at, reply_mark_at, skip_mark_at}
 use Rattle.osc_life.specs.declared.server_error.ReplyError.TheVariants.{NotObserving, StaleTicket}
 use Rattle.osc_laws.proofs.DeliveredNumbers.{none_beyond}
 use Rattle.osc_endpoint.proofs.Places.{same_life}
@@ -57,9 +57,9 @@ of_chosen P false x y h k = k refl
 
 clock_share : (i : ℕ) (h : History) → AllAnswers h → clock (share i h) ≡ clock h
 clock_share i Begin all = refl
-clock_share i (Then h (Add context start size) (Added index)) all =
+clock_share i (Then h (Add context start size places) (Added index)) all =
     let before = clock_share i h all.0 in
-    of_chosen (λ g. clock g ≡ clock h) (i == index) (Then (share i h) (Add context start size) (Added 0)) (share i h) (λ e. before) (λ e. before)
+    of_chosen (λ g. clock g ≡ clock h) (i == index) (Then (share i h) (Add context start size places) (Added 0)) (share i h) (λ e. before) (λ e. before)
 clock_share i (Then h (Datagram now echo mid d) (Took answer reply)) all =
     let later = ap (λ (c : ℕ). max c now) (clock_share i h all.0) in
     of_chosen (λ g. clock g ≡ max (clock h) now) (concerns i answer) (Then (share i h) (Datagram now echo mid d) (Took (answer_alone answer) reply)) (Then (share i h) (Advance now) Advanced) (λ e. later) (λ e. later)
@@ -72,15 +72,19 @@ clock_share i (Then h (Notify ticket plain room) (Replied bytes)) all =
 clock_share i (Then h (Restart context next) Restarted) all =
     let before = clock_share i h all.0 in
     of_chosen (λ g. clock g ≡ clock h) (i == context) (Then (share i h) (Restart 0 next) Restarted) (share i h) (λ e. before) (λ e. before)
+clock_share i (Then h (Replace context by start size) Replaced) all =
+    let before = clock_share i h all.0 in
+    of_chosen (λ g. clock g ≡ clock h) (i == context) (Then (share i h) (Replace 0 by start size) Replaced) (share i h) (λ e. before) (λ e. before)
 clock_share i (Then h (Skip context count) Skipped) all =
     let before = clock_share i h all.0 in
     of_chosen (λ g. clock g ≡ clock h) (i == context) (Then (share i h) (Skip 0 count) Skipped) (share i h) (λ e. before) (λ e. before)
 clock_share i (Then h (Advance now) Advanced) all = ap (λ (c : ℕ). max c now) (clock_share i h all.0)
-clock_share i (Then h (Add context start size) entry) all = clock_share i h all.0
+clock_share i (Then h (Add context start size places) entry) all = clock_share i h all.0
 clock_share i (Then h (Datagram now echo mid d) entry) all = absurd all.1
 clock_share i (Then h (Reply ticket own mid plain room) entry) all = clock_share i h all.0
 clock_share i (Then h (Notify ticket plain room) entry) all = clock_share i h all.0
 clock_share i (Then h (Restart context next) entry) all = clock_share i h all.0
+clock_share i (Then h (Replace context by start size) entry) all = clock_share i h all.0
 clock_share i (Then h (Skip context count) entry) all = clock_share i h all.0
 clock_share i (Then h (Advance now) entry) all = absurd all.1
 
@@ -91,8 +95,8 @@ life_chosen false x y l k h g = g refl
 
 life_share : (i : ℕ) (h : History) → life (share i h) 0 ≡ life h i
 life_share i Begin = refl
-life_share i (Then h (Add context start size) (Added index)) =
-    life_chosen (i == index) (Then (share i h) (Add context start size) (Added 0)) (share i h) (Some (born context start size)) (life h i) (λ e. refl) (λ e. life_share i h)
+life_share i (Then h (Add context start size places) (Added index)) =
+    life_chosen (i == index) (Then (share i h) (Add context start size places) (Added 0)) (share i h) (Some (born context start size)) (life h i) (λ e. refl) (λ e. life_share i h)
 life_share i (Then h (Datagram now echo mid d) (Took answer reply)) =
     of_chosen (λ g. life g 0 ≡ option_map (marked (mark_at i answer)) (life h i)) (concerns i answer) (Then (share i h) (Datagram now echo mid d) (Took (answer_alone answer) reply)) (Then (share i h) (Advance now) Advanced)
     (λ e. ap (λ (m : Option Mark). option_map (marked m) (life (share i h) 0)) (same_mark i answer e) ∙ ap (option_map (marked (mark_at i answer))) (life_share i h))
@@ -107,6 +111,8 @@ life_share i (Then h (Notify ticket plain room) (Replied bytes)) =
     (λ e. life_share i h ∙ sym (same_life (life h i) (reply_mark_at i ticket true) (no_reply_mark i ticket true e)))
 life_share i (Then h (Restart context next) Restarted) =
     life_chosen (i == context) (Then (share i h) (Restart 0 next) Restarted) (share i h) (option_map (renewed next) (life h i)) (life h i) (λ e. ap (option_map (renewed next)) (life_share i h)) (λ e. life_share i h)
+life_share i (Then h (Replace context by start size) Replaced) =
+    life_chosen (i == context) (Then (share i h) (Replace 0 by start size) Replaced) (share i h) (option_map (succeeding by start size) (life h i)) (life h i) (λ e. ap (option_map (succeeding by start size)) (life_share i h)) (λ e. life_share i h)
 life_share i (Then h (Skip context count) Skipped) =
     of_chosen (λ g. life g 0 ≡ option_map (marked (skip_mark_at i context count)) (life h i)) (i == context) (Then (share i h) (Skip 0 count) Skipped) (share i h)
     (λ e. ap (λ (m : Option Mark). option_map (marked m) (life (share i h) 0)) (same_skip_mark i context count e) ∙ ap (option_map (marked (skip_mark_at i context count))) (life_share i h))
@@ -120,8 +126,8 @@ not_first j = ne_eqb (suc j) 0 (λ e. omega (arith, e))
 -- it has no other life
 none_else : (i j : ℕ) (h : History) → life (share i h) (suc j) ≡ None
 none_else i j Begin = refl
-none_else i j (Then h (Add context start size) (Added index)) =
-    of_chosen (λ g. life g (suc j) ≡ None) (i == index) (Then (share i h) (Add context start size) (Added 0)) (share i h)
+none_else i j (Then h (Add context start size places) (Added index)) =
+    of_chosen (λ g. life g (suc j) ≡ None) (i == index) (Then (share i h) (Add context start size places) (Added 0)) (share i h)
     (λ e. cond-false (suc j == 0) (Some (born context start size)) (life (share i h) (suc j)) (not_first j) ∙ none_else i j h) (λ e. none_else i j h)
 none_else i j (Then h (Datagram now echo mid d) (Took answer reply)) =
     of_chosen (λ g. life g (suc j) ≡ None) (concerns i answer) (Then (share i h) (Datagram now echo mid d) (Took (answer_alone answer) reply)) (Then (share i h) (Advance now) Advanced)
@@ -135,6 +141,9 @@ none_else i j (Then h (Notify ticket plain room) (Replied bytes)) =
 none_else i j (Then h (Restart context next) Restarted) =
     of_chosen (λ g. life g (suc j) ≡ None) (i == context) (Then (share i h) (Restart 0 next) Restarted) (share i h)
     (λ e. cond-false (suc j == 0) (option_map (renewed next) (life (share i h) (suc j))) (life (share i h) (suc j)) (not_first j) ∙ none_else i j h) (λ e. none_else i j h)
+none_else i j (Then h (Replace context by start size) Replaced) =
+    of_chosen (λ g. life g (suc j) ≡ None) (i == context) (Then (share i h) (Replace 0 by start size) Replaced) (share i h)
+    (λ e. cond-false (suc j == 0) (option_map (succeeding by start size) (life (share i h) (suc j))) (life (share i h) (suc j)) (not_first j) ∙ none_else i j h) (λ e. none_else i j h)
 none_else i j (Then h (Skip context count) Skipped) =
     of_chosen (λ g. life g (suc j) ≡ None) (i == context) (Then (share i h) (Skip 0 count) Skipped) (share i h)
     (λ e. ap (option_map (marked (skip_mark_at (suc j) 0 count))) (none_else i j h)) (λ e. none_else i j h)
@@ -144,10 +153,10 @@ none_else i j (Then h event entry) = none_else i j h
 -- before a context is added its share has none
 pub none_yet : (i : ℕ) (h : History) → AllAnswers h → added h ≤ i → added (share i h) ≡ 0
 none_yet i Begin all early = refl
-none_yet i (Then h (Add context start size) (Added index)) all early =
+none_yet i (Then h (Add context start size places) (Added index)) all early =
     let later : added h + 1 ≤ i = early in
     let index_is : index ≡ added h = all.1.1.2 in
-    of_chosen (λ g. added g ≡ 0) (i == index) (Then (share i h) (Add context start size) (Added 0)) (share i h)
+    of_chosen (λ g. added g ≡ 0) (i == index) (Then (share i h) (Add context start size places) (Added 0)) (share i h)
     (λ e. absurd (omega (arith, later, index_is, eqb-true i index e))) (λ e. none_yet i h all.0 (omega (arith, later)))
 none_yet i (Then h (Datagram now echo mid d) (Took answer reply)) all early =
     let before = none_yet i h all.0 early in
@@ -161,6 +170,9 @@ none_yet i (Then h (Notify ticket plain room) (Replied bytes)) all early =
 none_yet i (Then h (Restart context next) Restarted) all early =
     let before = none_yet i h all.0 early in
     of_chosen (λ g. added g ≡ 0) (i == context) (Then (share i h) (Restart 0 next) Restarted) (share i h) (λ e. before) (λ e. before)
+none_yet i (Then h (Replace context by start size) Replaced) all early =
+    let before = none_yet i h all.0 early in
+    of_chosen (λ g. added g ≡ 0) (i == context) (Then (share i h) (Replace 0 by start size) Replaced) (share i h) (λ e. before) (λ e. before)
 none_yet i (Then h (Skip context count) Skipped) all early =
     let before = none_yet i h all.0 early in
     of_chosen (λ g. added g ≡ 0) (i == context) (Then (share i h) (Skip 0 count) Skipped) (share i h) (λ e. before) (λ e. before)
@@ -244,22 +256,34 @@ concerned_take h g i now mid echo d answer reply here same e both =
     concerned h g i a answer reply here e both = absurd (cc)
 
 -- the first context of a share is added to an empty server
-added_first : (h : History) (s : SecurityContext) (i index : ℕ) → AllAnswers h → (i == index) ≡ true → AddAnswer h s (Added index) → AddAnswer (share i h) s (Added 0)
-added_first h s i index all e row =
+added_first : (h : History) (s : SecurityContext) (i index places : ℕ) → AllAnswers h → (i == index) ≡ true → AddAnswer h s places (Added index) → AddAnswer (share i h) s places (Added 0)
+added_first h s i index places all e row =
     let early : added h ≤ i = omega (arith, row.2, eqb-true i index e) in
     let empty = none_yet i h all early in
-    (omega (arith, empty), untaken (share i h) (life_share i h ∙ none_beyond h all i early) (λ j. none_else i j h), sym empty)
+    (omega (arith, empty, row.0), untaken (share i h) (life_share i h ∙ none_beyond h all i early) (λ j. none_else i j h), sym empty)
   where
     untaken : (g : History) → life g 0 ≡ None → ((j : ℕ) → life g (suc j) ≡ None) → IsTaken g s → ⊥
     untaken g none others (zero, of, is, same) = absurd (let e' : None ≡ Some of = sym none ∙ is in cc)
     untaken g none others (suc j, of, is, same) = absurd (let e' : None ≡ Some of = sym (others j) ∙ is in cc)
 
+-- what is alone has no other beside it, and its own Sender Key alone
+replaced_alone : (h g : History) (i : ℕ) (s : SecurityContext) → life g 0 ≡ life h i → ((j : ℕ) → life g (suc j) ≡ None) → ReplaceAnswer (life h) i s Replaced → ReplaceAnswer (life g) 0 s Replaced
+replaced_alone h g i s here nowhere (left, free, differs) = (subst (λ o. LifeReplace o Replaced) (sym here) left, unbeside, unshared)
+  where
+    unbeside : IsTakenBeside (life g) 0 s → ⊥
+    unbeside (zero, of, other, is, same) = other refl
+    unbeside (suc j, of, other, is, same) = absurd (let e : None ≡ Some of = sym (nowhere j) ∙ is in cc)
+
+    unshared : HasSenderIn (life g) s → ⊥
+    unshared (zero, of, is, same) = differs (i, of, sym here ∙ is, same)
+    unshared (suc j, of, is, same) = absurd (let e : None ≡ Some of = sym (nowhere j) ∙ is in cc)
+
 -- each entry of a share is an answer
 answers_share : (i : ℕ) (h : History) → AllAnswers h → AllAnswers (share i h)
 answers_share i Begin all = tt
-answers_share i (Then h (Add context start size) (Added index)) all =
-    of_chosen AllAnswers (i == index) (Then (share i h) (Add context start size) (Added 0)) (share i h)
-    (λ e. (answers_share i h all.0, (all.1.0, added_first h context i index all.0 e all.1.1))) (λ e. answers_share i h all.0)
+answers_share i (Then h (Add context start size places) (Added index)) all =
+    of_chosen AllAnswers (i == index) (Then (share i h) (Add context start size places) (Added 0)) (share i h)
+    (λ e. (answers_share i h all.0, (all.1.0, added_first h context i index places all.0 e all.1.1))) (λ e. answers_share i h all.0)
 answers_share i (Then h (Datagram now echo mid d) (Took answer reply)) all =
     of_chosen AllAnswers (concerns i answer) (Then (share i h) (Datagram now echo mid d) (Took (answer_alone answer) reply)) (Then (share i h) (Advance now) Advanced)
     (λ e. (answers_share i h all.0, concerned_take h (share i h) i now mid echo d answer reply (life_share i h) (clock_share i h all.0) e all.1)) (λ e. (answers_share i h all.0, tt))
@@ -274,6 +298,12 @@ answers_share i (Then h (Notify ticket plain room) (Replied bytes)) all =
 answers_share i (Then h (Restart context next) Restarted) all =
     of_chosen AllAnswers (i == context) (Then (share i h) (Restart 0 next) Restarted) (share i h)
     (λ e. (answers_share i h all.0, subst (λ o. LifeRestart o Restarted) (sym (life_share i h ∙ ap (life h) (eqb-true i context e))) all.1)) (λ e. answers_share i h all.0)
+answers_share i (Then h (Replace context by start size) Replaced) all =
+    of_chosen AllAnswers (i == context) (Then (share i h) (Replace 0 by start size) Replaced) (share i h)
+    (λ e. (
+      answers_share i h all.0,
+      (all.1.0, replaced_alone h (share i h) i by (life_share i h) (λ j. none_else i j h) (subst (λ j. ReplaceAnswer (life h) j by Replaced) (sym (eqb-true i context e)) all.1.1)),
+    )) (λ e. answers_share i h all.0)
 answers_share i (Then h (Skip context count) Skipped) all =
     of_chosen AllAnswers (i == context) (Then (share i h) (Skip 0 count) Skipped) (share i h)
     (λ e. (answers_share i h all.0, subst (λ o. LifeSkip o count Skipped) (sym (life_share i h ∙ ap (life h) (eqb-true i context e))) all.1)) (λ e. answers_share i h all.0)
@@ -293,5 +323,6 @@ contexts_stand_alone h i all = record {
   notify = λ ticket plain room entry e row.
       notify_row h (share i h) i (life_share i h) (λ j. none_else i j h) ticket (as_notification ticket.token plain) room entry e row;
   restart = λ next entry row. subst (λ o. LifeRestart o entry) (sym (life_share i h)) row;
+  replace = λ by start size row. (row.0, replaced_alone h (share i h) i by (life_share i h) (λ j. none_else i j h) row.1);
   skip = λ count entry row. subst (λ o. LifeSkip o count entry) (sym (life_share i h)) row;
 }

@@ -111,6 +111,7 @@ abbrev pub IsOfThese : ℕ → List server.TicketValues → server.Event → ser
 IsOfThese i ts (server.Datagram now echo mid d) (server.Took answer reply) = IsElsewhere i answer
 IsOfThese i ts (server.Reply t own mid plain room) (server.Replied d) = t.context ≡ i → Contains ts t
 IsOfThese i ts (server.Notify t plain room) (server.Replied d) = t.context ≡ i → Contains ts t
+IsOfThese i ts (server.Replace context by start size) server.Replaced = context ≡ i → ⊥
 IsOfThese i ts event entry = Unit {0}
 
 -- the network brings the server a request that the client sealed, however late or often, and the server answers so (RFC 8613, 8.2)
@@ -185,7 +186,7 @@ pub record AdmitsInTime (i : ℕ) (x : Exchange) (of : Life) : Type 0 where
 -- a new client is in step with a context that is added fresh; the window stays open unless the server restarts; so requests are admitted in time
 -- (RFC 8613, 7.4, 8.1 to 8.4 and B.1.2)
 pub record ExchangeInTime : Type 0 where
-  pub starts : (s : SecurityContext) (first ms i : ℕ) (own : Piv) (size : WindowSize) (g : server.History)
-      → AreInStep i (client.New s first ms) (server.Then g (server.Add s (starts.Fresh own) size) (server.Added i))
+  pub starts : (s : SecurityContext) (first ms i : ℕ) (own : Piv) (size : WindowSize) (places : ℕ) (g : server.History)
+      → AreInStep i (client.New s first ms) (server.Then g (server.Add s (starts.Fresh own) size places) (server.Added i))
   pub stays_open : (n i : ℕ) (x : Exchange) → IsHonest n i x → StaysOpen i x → is_open_life (server.life (server_of x) i) ≡ true
   pub admits : (n i : ℕ) (x : Exchange) (of : Life) → IsHonest n i x → server.life (server_of x) i ≡ Some of → AdmitsInTime i x of

@@ -92,8 +92,8 @@ pub fn answered_once()
 }
 
 /// States that no two texts that a server seals share both key and nonce, under whichever of its contexts, except texts of two lives of one
-/// context. This holds if no two of its contexts have the same Sender Key (RFC 8613, 3.3 and 5.2), under the condition of [`ticket_once`]
-/// or of [`answered_once`].
+/// context. This holds if no two of its contexts have the same Sender Key, nor one that came later and one that was replaced before (RFC
+/// 8613, 3.3 and 5.2), under the condition of [`ticket_once`] or of [`answered_once`].
 pub fn keys_or_nonces_once()
     ensures server { ServerKeysOrNoncesOnce }
     ensures nonces { WaitingKeysOrNoncesOnce }

@@ -136,6 +136,10 @@ born context (Reserved next highest ahead) size = record {
   marks = [];
 }
 
+-- the life of a context that takes the place of the one that had life l: it is born as one that is added, and has one life more before it, so that older tickets are stale (own rule)
+abbrev pub succeeding : SecurityContext → Start → WindowSize → Life → Life
+succeeding context start size l = record (born context start size) { count = l.count + 1 }
+
 -- the life that a restart begins (RFC 8613, B.1)
 abbrev pub renewed : ℕ → Life → Life
 renewed next l = record { context = l.context; size = l.size; count = l.count + 1; open_at_birth = false; least = 0; doubt = None; first = next; marks = [] }

@@ -12,6 +12,7 @@ use Rattle.osc_protect.specs.Sealed.{SealsNotification, SealsResponse}
 use Rattle.osc_protect.specs.SealRefusals.{IsPlainResponse, RefusesPlainResponse, RefusesToSeal}
 use Rattle.osc_protect.specs.declared.protect_error.ProtectError.TheVariants as seals
 use Rattle.osc_life.specs.declared.server_error.ReplyError.TheVariants.{NotThatKind, Unsupported, NotNotification, SequenceExhausted as NoOwnLeft, TooLong, NoRoom}
+use Rattle.osc_life.specs.declared.server_error.ReplaceError.TheVariants as replaces
 use Rattle.osc_life.specs.declared.server_error.RestartError.TheVariants.{NoSuchContext, LivesExhausted}
 use Rattle.osc_life.specs.declared.server_error.SkipError.TheVariants as skips
 use Rattle.osc_observe.specs.Observing.{is_notification, registers}
@@ -19,7 +20,7 @@ use Rattle.osc_observe.specs.Received.{Receives}
 use Rattle.osc_life.specs.Replies.{as_reply, challenge_message}
 use Rattle.osc_life.specs.Doubting.{IsBelow, IsNotBelow, StaysBy}
 use Rattle.osc_life.specs.Life.{Life, Passes, Admits, Carries, HasOwn, IsNewIn, is_open, in_force, next_own}
-use Rattle.osc_life.specs.ServerHistory.{Entry, Answer, TicketValues, Replay, BadTag, BadInner, Challenge, SequenceExhausted, Deliver, Replied, NotReplied, Restarted, NotRestarted, Skipped, NotSkipped}
+use Rattle.osc_life.specs.ServerHistory.{Entry, Answer, TicketValues, Replay, BadTag, BadInner, Challenge, SequenceExhausted, Deliver, Replied, NotReplied, Restarted, NotRestarted, Replaced, NotReplaced, Skipped, NotSkipped}
 
 -- a datagram that arrived: the clock after the datagram's moment, the fresh Echo value and Message ID, and its bytes (own rule)
 pub record Arrival : Type 0 where
@@ -96,12 +97,19 @@ LifeNotify of n p room (NotReplied NoRoom) = (is_notification p.code p.options �
 LifeNotify of n p room (Replied bytes) = (is_notification p.code p.options ≡ true) × HasOwn of × SealsNotification of.context n (Some (next_own of)) p bytes × (length bytes ≤ room)
 LifeNotify of n p room entry = ⊥
 
--- the answer to Restart, from the present life of the context, if it is there (own rule: 2 ^ 64 - 1 restarts)
+-- the answer to Restart, from the present life of the context, if it is there (own rule: 2 ^ 64 - 1 restarts and replacements)
 abbrev pub LifeRestart : Option Life → Entry → Type 0
 LifeRestart None (NotRestarted NoSuchContext) = Unit {0}
 LifeRestart (Some of) (NotRestarted LivesExhausted) = 2 ^ 64 ≤ of.count + 1
 LifeRestart (Some of) Restarted = of.count + 1 < 2 ^ 64
 LifeRestart of entry = ⊥
+
+-- whether another context can take the place of one, from its present life, if it is there (own rule: 2 ^ 64 - 1 restarts and replacements)
+abbrev pub LifeReplace : Option Life → Entry → Type 0
+LifeReplace None (NotReplaced replaces.NoSuchContext) = Unit {0}
+LifeReplace (Some of) (NotReplaced replaces.LivesExhausted) = 2 ^ 64 ≤ of.count + 1
+LifeReplace (Some of) Replaced = of.count + 1 < 2 ^ 64
+LifeReplace of entry = ⊥
 
 -- the answer to Skip, from the present life of the context, if it is there: no number from 2 ^ 40 on is passed over (RFC 8613, 7.2.1)
 abbrev pub LifeSkip : Option Life → ℕ → Entry → Type 0

@@ -10,10 +10,11 @@ use Rattle.osc_window.specs.declared.window_size.WindowSize.{WindowSize}
 use Rattle.osc_life.specs.declared.start.Start.{Start}
 use Rattle.osc_life.specs.declared.server_error.AddError.{AddError}
 use Rattle.osc_life.specs.declared.server_error.ReplyError.{ReplyError}
+use Rattle.osc_life.specs.declared.server_error.ReplaceError.{ReplaceError}
 use Rattle.osc_life.specs.declared.server_error.RestartError.{RestartError}
 use Rattle.osc_life.specs.declared.server_error.SkipError.{SkipError}
 use Rattle.osc_observe.specs.Received.{Received}
-use Rattle.osc_life.specs.Life.{Life, Mark, Delivered, Spoiled, Challenged, Answered, PassedOver, marked, born, renewed}
+use Rattle.osc_life.specs.Life.{Life, Mark, Delivered, Spoiled, Challenged, Answered, PassedOver, marked, born, renewed, succeeding}
 
 -- what a ticket holds: the context, which of its lives, the request's number and head, and whether it registers an observation (own rule)
 pub record TicketValues : Type 0 where
@@ -25,14 +26,15 @@ pub record TicketValues : Type 0 where
   pub token : List ℕ
   pub observes : Bool
 
--- what happens to a server; room is the length of the buffer for a reply or a notification, Skip passes over so many Sender Sequence Numbers of a context, Advance
--- only moves the clock (own rule)
+-- what happens to a server; places is how many contexts the server has room for, room is the length of the buffer for a reply or a notification, Skip passes over so
+-- many Sender Sequence Numbers of a context, Replace puts another security context in the place of a context, Advance only moves the clock (own rule)
 pub data Event : Type 0 where
-  Add : (context : SecurityContext) (start : Start) (size : WindowSize) → Event
+  Add : (context : SecurityContext) (start : Start) (size : WindowSize) (places : ℕ) → Event
   Datagram : (now : ℕ) (echo : List ℕ) (mid : ℕ) (bytes : List ℕ) → Event
   Reply : (ticket : TicketValues) (own : Bool) (mid : ℕ) (plain : Parts) (room : ℕ) → Event
   Notify : (ticket : TicketValues) (plain : Parts) (room : ℕ) → Event
   Restart : (context next : ℕ) → Event
+  Replace : (context : ℕ) (by : SecurityContext) (start : Start) (size : WindowSize) → Event
   Skip : (context count : ℕ) → Event
   Advance : (now : ℕ) → Event
 
@@ -59,6 +61,8 @@ pub data Entry : Type 0 where
   NotReplied : (refusal : ReplyError) → Entry
   Restarted : Entry
   NotRestarted : (refusal : RestartError) → Entry
+  Replaced : Entry
+  NotReplaced : (refusal : ReplaceError) → Entry
   Skipped : Entry
   NotSkipped : (refusal : SkipError) → Entry
   Advanced : Entry
@@ -100,13 +104,14 @@ reply_mark_at i ticket own = if own && (i == ticket.context) then Some Answered 
 abbrev pub skip_mark_at : ℕ → ℕ → ℕ → Option Mark
 skip_mark_at i context count = if i == context then Some (PassedOver count) else None
 
--- the present life of context i: from its accepted Add or its last accepted Restart on (RFC 8613, B.1)
+-- the present life of context i: from its accepted Add, or the last accepted Restart or Replace, on (RFC 8613, B.1)
 abbrev pub life : History → ℕ → Option Life
 life Begin i = None
-life (Then h (Add context start size) (Added index)) i = if i == index then Some (born context start size) else life h i
+life (Then h (Add context start size places) (Added index)) i = if i == index then Some (born context start size) else life h i
 life (Then h (Datagram now echo mid d) (Took answer reply)) i = option_map (marked (mark_at i answer)) (life h i)
 life (Then h (Reply ticket own mid plain room) (Replied bytes)) i = option_map (marked (reply_mark_at i ticket own)) (life h i)
 life (Then h (Notify ticket plain room) (Replied bytes)) i = option_map (marked (reply_mark_at i ticket true)) (life h i)
 life (Then h (Restart context next) Restarted) i = if i == context then option_map (renewed next) (life h i) else life h i
+life (Then h (Replace context by start size) Replaced) i = if i == context then option_map (succeeding by start size) (life h i) else life h i
 life (Then h (Skip context count) Skipped) i = option_map (marked (skip_mark_at i context count)) (life h i)
 life (Then h event entry) i = life h i

@@ -3,6 +3,8 @@ use Rattle.std.specs.Prelude.{ℕ, List, ◌++◌, codes}
 use Rattle.std.specs.Fmt.{decimal}
 use Rattle.osc_life.specs.declared.server_error.AddError.{AddError}
 use Rattle.osc_life.specs.declared.server_error.AddError.TheVariants.{Full, SameLookup}
+use Rattle.osc_life.specs.declared.server_error.ReplaceError.{ReplaceError}
+use Rattle.osc_life.specs.declared.server_error.ReplaceError.TheVariants as replaces
 use Rattle.osc_life.specs.declared.server_error.RestartError.{RestartError}
 use Rattle.osc_life.specs.declared.server_error.RestartError.TheVariants.{NoSuchContext, LivesExhausted}
 use Rattle.osc_life.specs.declared.server_error.SkipError.{SkipError}
@@ -19,6 +21,13 @@ add_error_text SameLookup = codes "SameLookup"
 abbrev pub restart_error_text : RestartError → List ℕ
 restart_error_text NoSuchContext = codes "NoSuchContext"
 restart_error_text LivesExhausted = codes "LivesExhausted"
+
+-- how a refusal to replace a context prints (own rule)
+abbrev pub replace_error_text : ReplaceError → List ℕ
+replace_error_text replaces.NoSuchContext = codes "NoSuchContext"
+replace_error_text replaces.LivesExhausted = codes "LivesExhausted"
+replace_error_text replaces.SameLookup = codes "SameLookup"
+replace_error_text replaces.SameSender = codes "SameSender"
 
 -- how a refusal to pass over numbers prints (own rule)
 abbrev pub skip_error_text : SkipError → List ℕ

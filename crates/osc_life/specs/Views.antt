@@ -7,6 +7,7 @@ use Rattle.osc_life.specs.declared.ticket.Ticket.{Ticket}
 use Rattle.osc_life.specs.declared.outcome.Outcome.{Outcome}
 use Rattle.osc_life.specs.declared.outcome.Outcome.TheVariants as outcomes
 use Rattle.osc_life.specs.declared.server_error.ReplyError.{ReplyError}
+use Rattle.osc_life.specs.declared.server_error.ReplaceError.{ReplaceError}
 use Rattle.osc_life.specs.declared.server_error.RestartError.{RestartError}
 use Rattle.osc_life.specs.declared.server_error.SkipError.{SkipError}
 use Rattle.osc_life.specs.declared.seen.Seen.{Seen}
@@ -47,6 +48,11 @@ seen_delivery x = None
 abbrev pub restarted_entry : Result Unit RestartError → server.Entry
 restarted_entry (Ok x) = server.Restarted
 restarted_entry (Err e) = server.NotRestarted e
+
+-- the entry of a Replace (how the code is seen)
+abbrev pub replaced_entry : Result Unit ReplaceError → server.Entry
+replaced_entry (Ok x) = server.Replaced
+replaced_entry (Err e) = server.NotReplaced e
 
 -- the entry of a Skip (how the code is seen)
 abbrev pub skipped_entry : Result Unit SkipError → server.Entry

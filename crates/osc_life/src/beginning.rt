@@ -13,7 +13,7 @@ use osc_window::{Gate, Window, WindowSize};
 
 impl Slot {
     ghost use Rattle.osc_life.specs.Agrees.{SlotAgrees};
-    ghost use Rattle.osc_life.specs.Life.{Life, born, renewed};
+    ghost use Rattle.osc_life.specs.Life.{Life, born, renewed, succeeding};
 
     /// Begins a context, which keeps its key schedules if it is one that does.
     #[must_use]
@@ -55,5 +55,15 @@ impl Slot {
         self.doubt = None;
         self.next = next.number();
         self.life += 1;
+    }
+
+    /// Puts another context in the place of this one. Its life begins as that of a context that is added, but that older tickets are stale.
+    pub fn succeed(&mut self, context: KeyedContext, start: Start, size: WindowSize)
+        requires { self.old.life + 1 < 2 ^ 64 }
+        ensures { (l : Life) → SlotAgrees self.old l → SlotAgrees self.new (succeeding (as_server (context_of context)) start size l) }
+    {
+        let life = self.life + 1;
+        *self = Slot::begin(context, start, size);
+        self.life = life;
     }
 }

@@ -24,7 +24,7 @@ mod ticket_places;
 pub use decision::{Decided, Decision};
 pub use outcome::{Outcome, Taken};
 pub use seen::Seen;
-pub use server_error::{AddError, ReplyError, RestartError, SkipError};
+pub use server_error::{AddError, ReplaceError, ReplyError, RestartError, SkipError};
 pub use start::{Fresh, Start};
 pub use ticket::Ticket;
 
@@ -36,8 +36,9 @@ pub mod siblings {
     pub use crate::error_reply::{ErrorReply, write_error};
     pub use crate::judging::{Named, is_replay, refuse_replay};
     pub use crate::place::{
-        gate_of_place, has_sender_in_place, is_for, is_open_place, judge_place, next_of_place,
-        notify_place, reply_place, restart_place, skip_place, take_back_place,
+        check_place, gate_of_place, has_sender_in_place, is_for, is_open_place, judge_place,
+        next_of_place, notify_place, replace_place, reply_place, restart_place, skip_place,
+        take_back_place,
     };
     pub use crate::slot::Slot;
     pub use crate::ticket_places::{make_places, put_back, take_out, ticket_at};

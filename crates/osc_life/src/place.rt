@@ -1,32 +1,35 @@
 //! A place of a server's table: a context, or none. It answers for the context there.
 
-ghost use Rattle.std.specs.Prelude.{◌≡◌, ◌≢◌, ◌≤◌, ℕ, List, Option, None, Some, Ok, Result, IfNone, IfOk, IfErr, OnErr, Err, length, slice_get, take, drop, true, false};
+ghost use Rattle.std.specs.Prelude.{◌≡◌, ◌≢◌, ◌≤◌, IsOk, ℕ, List, Option, None, Some, Ok, Result, IfNone, IfOk, IfErr, OnErr, Err, length, slice_get, take, drop, true, false};
 ghost use Rattle.osc_context.specs.Senders.{HaveSameSender};
 ghost use Rattle.osc_context.specs.Views.{as_server, number_of};
 ghost use Rattle.osc_coap.specs.Views.{parts_of};
-ghost use Rattle.osc_protect.specs.Views.{shown};
+ghost use Rattle.osc_protect.specs.Views.{context_of, shown};
 ghost use Rattle.osc_life.specs.Agrees.{GateAgrees, HasGate, HoldsLife};
 ghost use Rattle.osc_life.specs.Deciding.{CanShow, Leaves};
 ghost use Rattle.osc_life.specs.Judging.{IsAskerOf, IsNamedAt, JudgesTo, LooksUp};
-ghost use Rattle.osc_life.specs.Life.{Delivered, Life, is_open, marked, next_own};
-ghost use Rattle.osc_life.specs.LifeAnswer.{LifeRestart, LifeSkip, as_notification};
+ghost use Rattle.osc_life.specs.Life.{Delivered, Life, is_open, marked, next_own, succeeding};
+ghost use Rattle.osc_life.specs.LifeAnswer.{LifeReplace, LifeRestart, LifeSkip, as_notification};
 ghost use Rattle.osc_life.specs.Replies.{as_reply};
 ghost use Rattle.osc_life.specs.Replying.{PlaceNotify, PlaceReply, reply_mark};
-ghost use Rattle.osc_life.specs.Restarting.{life_after, skip_mark};
-ghost use Rattle.osc_life.specs.Views.{reply_entry, restarted_entry, skipped_entry, values_of};
+ghost use Rattle.osc_life.specs.Restarting.{HasLifeLeft, life_after, skip_mark};
+ghost use Rattle.osc_life.specs.Views.{replaced_entry, reply_entry, restarted_entry, skipped_entry, values_of};
 ghost use Rattle.osc_life.specs.declared.server_error.ReplyError.TheVariants.{KeeperFailed, StaleTicket};
+ghost use Rattle.osc_life.specs.declared.server_error.ReplaceError.TheVariants as replaces;
 ghost use Rattle.osc_life.specs.declared.server_error.RestartError.TheVariants.{NoSuchContext};
 ghost use Rattle.osc_life.specs.declared.server_error.SkipError.TheVariants as skips;
 ghost use Rattle.osc_life.specs.declared.slot.Slot.{Slot};
 
 use crate::decision::Decided;
 use crate::judging::Named;
-use crate::server_error::{ReplyError, RestartError, SkipError};
+use crate::server_error::{ReplaceError, ReplyError, RestartError, SkipError};
 use crate::slot::Slot;
+use crate::start::Start;
 use crate::ticket::Ticket;
 use osc_coap::Message;
 use osc_context::{Context, Piv};
-use osc_window::Gate;
+use osc_protect::KeyedContext;
+use osc_window::{Gate, WindowSize};
 
 /// Returns whether the context has this kid, and this kid context or none.
 pub fn is_for(place: &Option<Slot>, kid: &[u8], kid_context: Option<&[u8]>) -> bool
@@ -183,6 +186,36 @@ pub fn restart_place(place: &mut Option<Slot>, next: Piv) -> Result<(), RestartE
             Ok(())
         }
         None => Err(RestartError::NoSuchContext),
+    }
+}
+
+/// Returns why no other context can take the place of the one that is there, if none can.
+pub fn check_place(place: &Option<Slot>) -> Result<(), ReplaceError>
+    ensures answered { (l : Life) → HoldsLife place.now l → LifeReplace (Some l) (replaced_entry result) }
+    ensures left { IsOk result → HasLifeLeft place.now }
+    ensures none { IfNone place.now (result ≡ Err replaces.NoSuchContext) }
+{
+    match place {
+        Some(slot) if slot.life == u64::MAX => Err(ReplaceError::LivesExhausted),
+        Some(_) => Ok(()),
+        None => Err(ReplaceError::NoSuchContext),
+    }
+}
+
+/// Puts another context in the place of the one that is there.
+pub fn replace_place(
+    place: &mut Option<Slot>,
+    context: KeyedContext,
+    start: Start,
+    size: WindowSize,
+)
+    requires { HasLifeLeft place.old }
+    ensures { (l : Life) → HoldsLife place.old l
+        → HoldsLife place.new (succeeding (as_server (context_of context)) start size l) }
+{
+    match place {
+        Some(slot) => slot.succeed(context, start, size),
+        None => unreachable!(),
     }
 }
 

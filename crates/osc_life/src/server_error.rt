@@ -6,7 +6,7 @@ use std::fmt;
 /// Why a context isn't added. The variants stand in the order in which they are checked.
 #[derive(Clone, Copy, Debug, PartialEq, Eq)]
 pub enum AddError {
-    /// The server has eight contexts; own rule.
+    /// The server has as many contexts as it has room for; own rule.
     Full,
     /// One of its contexts has the same Recipient ID, and both have the same ID Context or none (RFC 8613, 3.3).
     SameLookup,
@@ -33,7 +33,7 @@ impl Error for AddError {}
 pub enum RestartError {
     /// No context has this index.
     NoSuchContext,
-    /// The context was restarted 2^64 - 1 times.
+    /// The context was restarted or replaced 2^64 - 1 times.
     LivesExhausted,
 }
 
@@ -52,6 +52,38 @@ impl fmt::Display for RestartError {
 }
 
 impl Error for RestartError {}
+
+/// Why a context isn't replaced. The variants stand in the order in which they are checked.
+#[derive(Clone, Copy, Debug, PartialEq, Eq)]
+pub enum ReplaceError {
+    /// No context has this index.
+    NoSuchContext,
+    /// The context was restarted or replaced 2^64 - 1 times.
+    LivesExhausted,
+    /// Another context has the same Recipient ID, and both have the same ID Context or none (RFC 8613, 3.3).
+    SameLookup,
+    /// A context that is there, perhaps the one to be replaced, has the same Sender Key: both would use the same Sender Sequence Numbers
+    /// (RFC 8613, 3.3 and 5.2).
+    SameSender,
+}
+
+impl fmt::Display for ReplaceError {
+    ghost use Rattle.std.specs.Prelude.{Some};
+    ghost use Rattle.osc_life.specs.Text.{replace_error_text};
+
+    ghost output = { λ error. Some (replace_error_text error) };
+
+    fn fmt<W: fmt::Write>(&self, f: &mut fmt::Formatter<W>) -> fmt::Result {
+        match self {
+            ReplaceError::NoSuchContext => f.write_str("NoSuchContext"),
+            ReplaceError::LivesExhausted => f.write_str("LivesExhausted"),
+            ReplaceError::SameLookup => f.write_str("SameLookup"),
+            ReplaceError::SameSender => f.write_str("SameSender"),
+        }
+    }
+}
+
+impl Error for ReplaceError {}
 
 /// Why Sender Sequence Numbers aren't passed over. The variants stand in the order in which they are checked.
 #[derive(Clone, Copy, Debug, PartialEq, Eq)]

@@ -24,7 +24,7 @@ pub struct Slot {
     pub doubt: Option<Doubt>,
     // The next Sender Sequence Number, or the limit if none is left.
     pub next: u64,
-    // How often the context was restarted.
+    // How often a new life began in this place: the context was restarted, or replaced.
     pub life: u64,
     pub context: KeyedContext,
     pub ghost in_range: { next ≤ 2 ^ 40 },

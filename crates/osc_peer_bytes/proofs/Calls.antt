@@ -120,16 +120,16 @@ started_here (starts.Reserved first highest kept) sender received floor is some 
 
 pub begins : StartsInList → (s : SecurityContext) (w : Peers) (start : Start) (size : WindowSize) (sender received life_ms room : ℕ) (own : Own) (q : PeerHandle) → AreCounted room s w
     → IsPeerStart 0 start sender received → sender < 2 ^ 40 → (near_numbers s w).floor ≤ sender → IsAboveReceived w received → own ≡ serving.started start sender (nothing_drawn 0)
-    → ServesBehind q own (server.Then server.Begin (server.Add (turned s) start size) (server.Added 0)) → AsksBehind q [] room own (client.New s sender life_ms)
+    → ServesBehind q own (server.Then server.Begin (server.Add (turned s) start size 1) (server.Added 0)) → AsksBehind q [] room own (client.New s sender life_ms)
     → BeginsInList s w start size sender received life_ms q room
 begins law s w start size sender received life_ms room own q counted is below least above same serves asks =
     let (claimed, runs, delivers) = law room s w 0 start size sender received life_ms 0 counted is below least above in (
       claimed,
       record {
-        h = server.Then server.Begin (server.Add (turned s) start size) (server.Added 0);
+        h = server.Then server.Begin (server.Add (turned s) start size 1) (server.Added 0);
         a = client.New s sender life_ms;
         own = own;
-        runs = subst (λ o. PeerRuns s (peer_started start size sender life_ms w) (server.Then server.Begin (server.Add (turned s) start size) (server.Added 0)) (client.New s sender life_ms) o)
+        runs = subst (λ o. PeerRuns s (peer_started start size sender life_ms w) (server.Then server.Begin (server.Add (turned s) start size 1) (server.Added 0)) (client.New s sender life_ms) o)
             (sym same) runs;
         serves = serves;
         asks = asks;
@@ -140,7 +140,7 @@ begins law s w start size sender received life_ms room own q counted is below le
 -- at a number that was saved
 pub begins_loaded : StartsInList → (s : SecurityContext) (w : Peers) (start : Start) (size : WindowSize) (sender received life_ms room : ℕ) (q : PeerHandle) → AreCounted room s w
     → IsPeerStart 0 start sender received → sender ≢ 0 → sender < 2 ^ 40 → (near_numbers s w).floor ≤ sender → IsAboveReceived w received
-    → ServesBehind q (after (Load sender) (nothing_drawn 0)) (server.Then server.Begin (server.Add (turned s) start size) (server.Added 0))
+    → ServesBehind q (after (Load sender) (nothing_drawn 0)) (server.Then server.Begin (server.Add (turned s) start size 1) (server.Added 0))
     → AsksBehind q [] room (after (Load sender) (nothing_drawn 0)) (client.New s sender life_ms) → BeginsInList s w start size sender received life_ms q room
 begins_loaded law s w start size sender received life_ms room q counted is some below least above serves asks =
     begins law s w start size sender received life_ms room (after (Load sender) (nothing_drawn 0)) q counted is below least above (sym (started_here start sender received 0 is some)) serves asks

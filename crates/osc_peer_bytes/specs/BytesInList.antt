@@ -87,5 +87,5 @@ BeginsInList s w start size sender received life_ms q room = IsAsClaimed room s 
 -- the peer starts at 0, and no number was saved for it yet (RFC 8613, B.1.1)
 abbrev pub IsUnsaved : SecurityContext → Start → WindowSize → ℕ → PeerHandle → Type 0
 IsUnsaved s start size life_ms p = (floor room : ℕ) → floor ≤ 0
-    → ServesBehind p (after (Load 0) (nothing_drawn floor)) (server.Then server.Begin (server.Add (turned s) start size) (server.Added 0))
+    → ServesBehind p (after (Load 0) (nothing_drawn floor)) (server.Then server.Begin (server.Add (turned s) start size 1) (server.Added 0))
     × AsksBehind p [] room (after (Load 0) (nothing_drawn floor)) (client.New s 0 life_ms)

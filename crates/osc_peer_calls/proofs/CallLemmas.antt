@@ -15,7 +15,7 @@ use Rattle.osc_client.specs.declared.client.Client.{Client}
 use Rattle.osc_endpoint.specs.Agrees.{Agrees}
 use Rattle.osc_endpoint.specs.ServerAnswer.{ServerAnswer}
 use Rattle.osc_endpoint.specs.Views.{server_entry}
-use Rattle.osc_endpoint.specs.declared.server.Server.{Server}
+use Rattle.osc_endpoint.specs.declared.server.ServerOf.{ServerOf}
 use Rattle.osc_life.specs.Deciding as deciding
 use Rattle.osc_life.specs.ServerHistory as server
 use Rattle.osc_life.specs.Views.{Shows, reply_entry}
@@ -102,11 +102,11 @@ moved : (asked : Bool) (u : Option ℕ) (old mid new : Own) → Steps asked u ol
 moved asked u old mid new steps on = record { drawn = steps.0; mid = mid; draws = asked_draws asked old steps.0 steps.1; uses = steps.2; kept_on = on }
 
 -- a step of a kept server, and a record that may be written once more
-pub serves_on : (g : server.History) (event : server.Event) (entry : server.Entry) (old mid new : Own) (z : Server) → serving.KeptStep g event entry old mid z → IsKeptOn mid new
+pub serves_on : (g : server.History) (event : server.Event) (entry : server.Entry) (old mid new : Own) (z : ServerOf 1) → serving.KeptStep g event entry old mid z → IsKeptOn mid new
     → Moves (serving.uses g event entry) old new
 serves_on g event entry old mid new z step on = moved (serving.draws g event) (serving.uses g event entry) old mid new step.numbers on
 
-pub serves : (g : server.History) (event : server.Event) (entry : server.Entry) (old new : Own) (z : Server) → serving.KeptStep g event entry old new z → Moves (serving.uses g event entry) old new
+pub serves : (g : server.History) (event : server.Event) (entry : server.Entry) (old new : Own) (z : ServerOf 1) → serving.KeptStep g event entry old new z → Moves (serving.uses g event entry) old new
 serves g event entry old new z step = serves_on g event entry old new new z step (inl refl)
 
 pub asks : {N : ℕ} (m : client.History) (event : client.Event) (entry : client.Entry) (old new : Own) (c : Client N) → asking.KeptStep m event entry old new c → Moves (asking.uses m event entry) old new
@@ -179,7 +179,7 @@ asks_after {r = r} {N = N} law s w old new runs m event entry i pass plain row x
           h = runs.h;
           k = client.Then m event entry;
           runs = ran;
-          server = subst (λ (z : Server). ServerIsBehind z (upcoming (own_in new.source)) runs.h) (sym server_is)
+          server = subst (λ (z : ServerOf 1). ServerIsBehind z (upcoming (own_in new.source)) runs.h) (sym server_is)
               (server_still old.server runs.h (upcoming (own_in old.source)) (upcoming (own_in new.source)) most runs.server);
           client = is;
         };
@@ -194,7 +194,7 @@ runs_still {N = N} s w old new server client own runs = record {
   h = runs.h;
   k = runs.k;
   runs = subst (λ o. PeerRuns s w runs.h runs.k o) (sym own) runs.runs;
-  server = subst (λ (z : Server). ServerIsBehind z (upcoming (own_in new.source)) runs.h) (sym server) (subst (λ o. ServerIsBehind old.server (upcoming o) runs.h) (sym own) runs.server);
+  server = subst (λ (z : ServerOf 1). ServerIsBehind z (upcoming (own_in new.source)) runs.h) (sym server) (subst (λ o. ServerIsBehind old.server (upcoming o) runs.h) (sym own) runs.server);
   client = subst (λ (c : Client N). ClientIsBehind c (upcoming (own_in new.source)) runs.k) (sym client) (subst (λ o. ClientIsBehind old.client (upcoming o) runs.k) (sym own) runs.client);
 }
 
@@ -266,18 +266,18 @@ listens law s w old new runs event entry i plain quiet row trusts agrees (server
 
 pub begins : {R : Type 0} {r : keeper.Ghosts R} {N : ℕ} (s : SecurityContext) (w : Peers) (start : Start) (size : WindowSize) (sender received life_ms floor : ℕ) (new : KeptPeer R N r)
     → IsAsClaimed N s (peer_started start size sender life_ms w)
-    → PeerRuns s (peer_started start size sender life_ms w) (server.Then server.Begin (server.Add (turned s) start size) (server.Added 0)) (client.New s sender life_ms)
+    → PeerRuns s (peer_started start size sender life_ms w) (server.Then server.Begin (server.Add (turned s) start size 1) (server.Added 0)) (client.New s sender life_ms)
     (serving.started start sender (nothing_drawn floor))
     → delivered (back (peer_started start size sender life_ms w)) ≡ delivered (back w) → own_in new.source ≡ serving.started start sender (nothing_drawn floor)
-    → ServerIsBehind new.server (upcoming (own_in new.source)) (server.Then server.Begin (server.Add (turned s) start size) (server.Added 0))
+    → ServerIsBehind new.server (upcoming (own_in new.source)) (server.Then server.Begin (server.Add (turned s) start size 1) (server.Added 0))
     → ClientIsBehind new.client (upcoming (own_in new.source)) (client.New s sender life_ms) → IsAboveReceived w received
     → BeginsInList s w start size sender received life_ms new
 begins s w start size sender received life_ms floor new claimed runs same own server_is client_is above = (
   claimed,
   record {
-    h = server.Then server.Begin (server.Add (turned s) start size) (server.Added 0);
+    h = server.Then server.Begin (server.Add (turned s) start size 1) (server.Added 0);
     k = client.New s sender life_ms;
-    runs = subst (λ o. PeerRuns s (peer_started start size sender life_ms w) (server.Then server.Begin (server.Add (turned s) start size) (server.Added 0)) (client.New s sender life_ms) o) (sym own) runs;
+    runs = subst (λ o. PeerRuns s (peer_started start size sender life_ms w) (server.Then server.Begin (server.Add (turned s) start size 1) (server.Added 0)) (client.New s sender life_ms) o) (sym own) runs;
     server = server_is;
     client = client_is;
   },

@@ -18,7 +18,7 @@ use Rattle.osc_kept_ends.specs.Peering.{MayDraw}
 use Rattle.osc_kept_ends.proofs.Drawing.{upcoming_stays}
 use Rattle.osc_kept.specs.EchoNumbers.{EchoesItsNumber, MakesEcho}
 use Rattle.osc_kept.specs.InWorld.{IsHeld}
-use Rattle.osc_kept.specs.Premises.{IsNoAdd, NobodyForges}
+use Rattle.osc_kept.specs.Premises.{BringsNoContext, NobodyForges}
 use Rattle.osc_kept.specs.World.{World, Then, AtServer, Has, delivered, sent, server_effect, server_history, server_life}
 use Rattle.osc_kept.proofs.EchoNumbers.{counted_makes}
 use Rattle.osc_kept.proofs.GoingOn.{after_alike, alike_to, allowed_alike, no_load, IsNoLoad}
@@ -34,7 +34,8 @@ use Rattle.osc_peer_calls.proofs.OneMore.{Drawn, alike_on, back_more, may_draw}
 
 -- what an event does to the numbers of a server that has no restart in place
 used_by : (h : server.History) (event : server.Event) (entry : server.Entry) → IsOfServer event → server_effect (Some h) event entry ≡ use_of (serving.uses h event entry)
-used_by h (server.Add context start size) entry i = absurd i
+used_by h (server.Add context start size places) entry i = absurd i
+used_by h (server.Replace context by start size) entry i = absurd i
 used_by h (server.Restart context next) entry i = absurd i
 used_by h event entry i = refl
 
@@ -161,8 +162,9 @@ stays_above : (w v : Peers) (u : World) (event : server.Event) (entry : server.E
 stays_above w v u event entry same is x y below f n has =
     above_more u event entry x y n below (λ m k. f m (subst (λ ms. Has m ms) same k)) (subst (λ z. Has n (delivered z)) is has)
 
-no_add : (event : server.Event) → IsOfServer event → IsNoAdd event
-no_add (server.Add context start size) i = absurd i
+no_add : (event : server.Event) → IsOfServer event → BringsNoContext event
+no_add (server.Add context start size places) i = absurd i
+no_add (server.Replace context by start size) i = absurd i
 no_add event i = tt
 
 -- ---- the step

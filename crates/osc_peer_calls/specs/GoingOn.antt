@@ -77,8 +77,9 @@ pub record Moves (used : Option ℕ) (old new : Own) : Type 0 where
 
 -- an event of a server that has the one context with which it started, and no restart in place (own rule)
 abbrev pub IsOfServer : server.Event → Type 0
-IsOfServer (server.Add context start size) = ⊥
+IsOfServer (server.Add context start size places) = ⊥
 IsOfServer (server.Restart context next) = ⊥
+IsOfServer (server.Replace context by start size) = ⊥
 IsOfServer event = Unit {0}
 
 -- an event of a client that has no restart in place (own rule)
@@ -158,6 +159,6 @@ abbrev pub StartsInList : Type 0
 StartsInList = (n : ℕ) (s : SecurityContext) (w : Peers) (ahead : ℕ) (start : Start) (size : WindowSize) (sender received life_ms floor : ℕ) → AreCounted n s w
     → IsPeerStart ahead start sender received → sender < 2 ^ 40 → (near_numbers s w).floor ≤ sender → IsAboveReceived w received
     → IsAsClaimed n s (peer_started start size sender life_ms w)
-    × PeerRuns s (peer_started start size sender life_ms w) (server.Then server.Begin (server.Add (turned s) start size) (server.Added 0)) (client.New s sender life_ms)
+    × PeerRuns s (peer_started start size sender life_ms w) (server.Then server.Begin (server.Add (turned s) start size 1) (server.Added 0)) (client.New s sender life_ms)
     (serving.started start sender (nothing_drawn floor))
     × (delivered (back (peer_started start size sender life_ms w)) ≡ delivered (back w))

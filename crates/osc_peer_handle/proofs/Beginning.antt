@@ -40,18 +40,18 @@ born_context context (starts.Reserved first highest kept) size = refl
 
 begun_with : (p : PeerHandle) (context : SecurityContext) (start : Start) (size : WindowSize) (sender floor : ℕ) → AddsIn Begin context start size (Added 0) (server_of_one p.server.server)
     → IsSlotBytes p.server.server.slot → IsPeerStart 0 start sender p.received → p.server.reserved ≡ sender → sender ≤ 2 ^ 40 → floor ≤ sender
-    → ServesWith p.server (after (Load sender) (nothing_drawn floor)) (Then Begin (Add context start size) (Added 0))
+    → ServesWith p.server (after (Load sender) (nothing_drawn floor)) (Then Begin (Add context start size 1) (Added 0))
 begun_with p context start size sender floor (row, serves) bytes starts reserved top least =
     let o = after (Load sender) (nothing_drawn floor) in
-    serves_with p.server o (Then Begin (Add context start size) (Added 0)) serves bytes refl (ap (λ n. Some n) (first_own context start size sender p.received starts))
+    serves_with p.server o (Then Begin (Add context start size 1) (Added 0)) serves bytes refl (ap (λ n. Some n) (first_own context start size sender p.received starts))
     (subst (AreReserved o) (sym reserved) (loaded sender floor least)) (omega (arith, reserved, top))
 
 pub begun : (p : PeerHandle) (context : SecurityContext) (start : Start) (size : WindowSize) (sender floor : ℕ) → AddsIn Begin context start size (Added 0) (server_of_one p.server.server)
     → IsSlotBytes p.server.server.slot → IsPeerStart 0 start sender p.received → p.server.reserved ≡ sender → sender ≤ 2 ^ 40 → p.received ≤ 2 ^ 40 → floor ≤ sender
-    → ServesBehind p (after (Load sender) (nothing_drawn floor)) (Then Begin (Add context start size) (Added 0))
+    → ServesBehind p (after (Load sender) (nothing_drawn floor)) (Then Begin (Add context start size 1) (Added 0))
 begun p context start size sender floor adds bytes starts reserved top received least =
     let w = begun_with p context start size sender floor adds bytes starts reserved top least in
-    not_behind p (after (Load sender) (nothing_drawn floor)) (Then Begin (Add context start size) (Added 0)) (record { server = w.whole; received = received }) w
+    not_behind p (after (Load sender) (nothing_drawn floor)) (Then Begin (Add context start size 1) (Added 0)) (record { server = w.whole; received = received }) w
 
 pub begun_asking : (p : PeerHandle) (context : ContextHandle) (start : Start) (size : WindowSize) (sender floor room life_ms : ℕ) → AddsIn Begin (server_in context) start size (Added 0) (server_of_one p.server.server)
     → IsSlotBytes p.server.server.slot → IsPeerStart 0 start sender p.received → p.server.reserved ≡ sender → sender ≤ 2 ^ 40 → p.received ≤ 2 ^ 40 → floor ≤ sender → p.life_ms ≡ life_ms → p.clock ≡ 0
@@ -59,7 +59,7 @@ pub begun_asking : (p : PeerHandle) (context : ContextHandle) (start : Start) (s
 begun_asking p context start size sender floor room life_ms adds bytes starts reserved top received least life_is clock_is =
     let o = after (Load sender) (nothing_drawn floor) in
     let w = begun_with p (server_in context) start size sender floor adds bytes starts reserved top least in
-    let (of, is, context_is) = life_of p.server o (Then Begin (Add (server_in context) start size) (Added 0)) w in
+    let (of, is, context_is) = life_of p.server o (Then Begin (Add (server_in context) start size 1) (Added 0)) w in
     let same : server_in p.server.server.slot.context ≡ server_in context =
     sym context_is ∙ ap (λ (l : Life). l.context) (sym (same_Some (born (server_in context) start size) of is)) ∙ born_context (server_in context) start size in
     record {

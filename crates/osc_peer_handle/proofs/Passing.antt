@@ -102,7 +102,7 @@ serves_passed s h reached count next serves reached_is is most =
       record {
         slots = slots;
         table = table_set (table_of b) serves.slots 0 b (record s.slot { next = next }) x serves.table refl (passed_in b slot next most stands) (Some slot) at;
-        agrees = agrees_skipped (server_of s.clock serves.slots) (server_of s.clock slots) h 0 count (Ok tt) serves.agrees refl (length-set serves.slots 0 (Some x))
+        agrees = agrees_skipped (server_of 1 s.clock serves.slots) (server_of 1 s.clock slots) h 0 count (Ok tt) serves.agrees refl (length-set serves.slots 0 (Some x))
             (places_passed serves.slots (life h) l slot x count at life_is agrees serves.agrees.places);
         remembers = remembers_skipped _ h 0 count serves.remembers;
         answers = (serves.answers, row);

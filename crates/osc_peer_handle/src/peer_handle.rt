@@ -83,7 +83,7 @@ impl PeerHandle {
         requires { generation + 1 < 2 ^ 64 }
         ensures server { IfSome result (λ p. (start : StartOf) × IsPeerStart 0 start (number_of sender) received
             × ((floor : ℕ) → floor ≤ number_of sender → ServesBehind p (after (Load (number_of sender)) (nothing_drawn floor))
-            (served.Then served.Begin (served.Add (server_in context.now) start size) (served.Added 0)))) }
+            (served.Then served.Begin (served.Add (server_in context.now) start size 1) (served.Added 0)))) }
         ensures client { IfSome result (λ p. (floor room : ℕ) → floor ≤ number_of sender → AsksBehind p [] room (after (Load (number_of sender)) (nothing_drawn floor))
             (asked.New (client_in context.now) (number_of sender) life_ms)) }
         ensures received { IfSome result (λ p. p.received ≡ received) }
@@ -122,7 +122,7 @@ impl PeerHandle {
     ) -> Option<PeerHandle>
         ensures server { IfSome result (λ p. (start : StartOf) × IsPeerStart 0 start 0 0
             × ((floor : ℕ) → floor ≤ 0 → ServesBehind p (after (Load 0) (nothing_drawn floor))
-            (served.Then served.Begin (served.Add (server_in context.now) start size) (served.Added 0)))) }
+            (served.Then served.Begin (served.Add (server_in context.now) start size 1) (served.Added 0)))) }
         ensures client { IfSome result (λ p. (floor room : ℕ) → floor ≤ 0 → AsksBehind p [] room (after (Load 0) (nothing_drawn floor))
             (asked.New (client_in context.now) 0 life_ms)) }
         ensures received { IfSome result (λ p. p.received ≡ 0) }
@@ -148,7 +148,7 @@ impl PeerHandle {
     ) -> Result<PeerHandle, BeginRefusal>
         ensures server { IfOk result (λ p. (start : StartOf) × IsPeerStart 0 start kept.now.sender kept.now.received
             × ((floor : ℕ) → floor ≤ kept.now.sender → ServesBehind p (after (Load kept.now.sender) (nothing_drawn floor))
-            (served.Then served.Begin (served.Add (server_in context.now) start size) (served.Added 0)))) }
+            (served.Then served.Begin (served.Add (server_in context.now) start size 1) (served.Added 0)))) }
         ensures client { IfOk result (λ p. (floor room : ℕ) → floor ≤ kept.now.sender → AsksBehind p [] room (after (Load kept.now.sender) (nothing_drawn floor))
             (asked.New (client_in context.now) kept.now.sender life_ms)) }
         ensures received { IfOk result (λ p. p.received ≡ kept.now.received) }

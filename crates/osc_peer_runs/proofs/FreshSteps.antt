@@ -5,7 +5,7 @@ use Rattle.std.specs.Option.{ForSome, option_map}
 use Rattle.osc_coap.specs.Inner.{InnerParts}
 use Rattle.osc_context.specs.Views.{number_of}
 use Rattle.osc_context.specs.declared.record_keeper.RecordKeeper as keeper
-use Rattle.osc_endpoint.specs.declared.server.Server.{Server}
+use Rattle.osc_endpoint.specs.declared.server.ServerOf.{ServerOf}
 use Rattle.osc_endpoint.specs.declared.server_event.SealedResponse.{SealedResponse}
 use Rattle.osc_endpoint.specs.declared.server_event.ServerEntry.TheVariants as served
 use Rattle.osc_life.specs.Deciding.{Decides}
@@ -68,7 +68,7 @@ delivered_holds (seen.Deliver opened context number) reply answer holds logs tol
 delivered_holds x reply answer holds logs told = tt
 
 -- what was decided about a datagram is a step, behind which the server is
-pub decided_step : {R : Type 0} {r : keeper.Ghosts R} (h : server.History) (old new : PeerSource R r) (after : Server) (a : PeerArrival) (w : Wishes) (decided : Decided) (left : List ℕ)
+pub decided_step : {R : Type 0} {r : keeper.Ghosts R} (h : server.History) (old new : PeerSource R r) (after : ServerOf 1) (a : PeerArrival) (w : Wishes) (decided : Decided) (left : List ℕ)
     (reply : Bor (List ℕ)) (x : Seen) (o : Option server.TicketValues)
     → PeerDecides h a.now (record { echo = echo_of (upcoming (own_in old)); mid = a.mid }) a.bytes.items decided left reply.now (own_in old) (own_in new) after
     → DeliversBelow decided.decision (r.received_floor new.keeper) → Worked old new
@@ -150,7 +150,7 @@ unanswered_step {r = r} h w v a left replies.KeeperFailed room out old new s b =
       between,
       (between, mid.source, t, stale, refl, same.1, (s.asks.failures, s.asks.rises), ap last_of s.asks.remembers, refl),
       server_at new.server between (upcoming (own_in mid.source)) (upcoming (own_in new.source)) (ap upcoming same.1)
-          (subst (λ (z : Server). ServerIsBehind z (upcoming (own_in mid.source)) between) (sym same.0) behind),
+          (subst (λ (z : ServerOf 1). ServerIsBehind z (upcoming (own_in mid.source)) between) (sym same.0) behind),
     )
 unanswered_step {r = r} h w v a left e room out old new s b =
     let t = values_of s.asks.ticket in

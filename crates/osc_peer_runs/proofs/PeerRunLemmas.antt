@@ -13,7 +13,7 @@ use Rattle.osc_client.specs.declared.client_outcome.RequestError.TheVariants as 
 use Rattle.osc_client.specs.Agrees.{ClientAgrees}
 use Rattle.osc_client.specs.ClientHistory as client
 use Rattle.osc_endpoint.specs.declared.client_event.ClientEntry.TheVariants as asked
-use Rattle.osc_endpoint.specs.declared.server.Server.{Server}
+use Rattle.osc_endpoint.specs.declared.server.ServerOf.{ServerOf}
 use Rattle.osc_endpoint.specs.declared.server_event.ServerEntry.TheVariants as served
 use Rattle.osc_endpoint.specs.Agrees.{Agrees, PlaceAgrees}
 use Rattle.osc_endpoint.specs.ServerRun.{ticket_at}
@@ -31,7 +31,7 @@ use Rattle.osc_life.specs.ServerHistory as server
 use Rattle.osc_life.specs.Views.{Shows}
 use Rattle.osc_kept_ends.specs.declared.peer_source.PeerSource.{PeerSource}
 use Rattle.osc_kept_ends.specs.EchoNumber.{echo_of}
-use Rattle.osc_kept_ends.specs.Numbering.{Own, upcoming}
+use Rattle.osc_kept_ends.specs.Numbering.{upcoming}
 use Rattle.osc_kept_ends.specs.Peering.{AskStep, ClientIsBehind, PeerStep, ServerIsBehind, TakesBelow}
 use Rattle.osc_kept_ends.specs.PeerOwning.{own_in}
 use Rattle.osc_fresh.specs.Wishing.{unobeyed_message}
@@ -64,9 +64,9 @@ same_next None (Some l) q n m a b is also = absurd a
 same_next p None q n m a b is also = absurd (let e : None ≡ Some n = is in cc)
 
 -- a server has one next number, whatever history it is read from
-pub server_carried : (s d : Server) (h : server.History) (next more : ℕ) → ServerIsBehind s next h → d ≡ s → ∥ ((g : server.History) × ServerIsBehind d more g) ∥₁ → ServerIsBehind d more h
+pub server_carried : (s d : ServerOf 1) (h : server.History) (next more : ℕ) → ServerIsBehind s next h → d ≡ s → ∥ ((g : server.History) × ServerIsBehind d more g) ∥₁ → ServerIsBehind d more h
 server_carried s d h next more b same there =
-    let agrees : Agrees d h = subst (λ (z : Server). Agrees z h) (sym same) b.agrees in
+    let agrees : Agrees d h = subst (λ (z : ServerOf 1). Agrees z h) (sym same) b.agrees in
     record {
       agrees = agrees;
       one = b.one;
@@ -82,18 +82,18 @@ server_carried s d h next more b same there =
     }
 
 -- if both roles are behind, the peer seals above them
-pub above : {R : Type 0} {r : keeper.Ghosts R} {N : ℕ} (s : Server) (c : Client N) (source : PeerSource R r) (g : server.History) (m : client.History) (us : List (Option server.TicketValues))
+pub above : {R : Type 0} {r : keeper.Ghosts R} {N : ℕ} (s : ServerOf 1) (c : Client N) (source : PeerSource R r) (g : server.History) (m : client.History) (us : List (Option server.TicketValues))
     → AreBehind s c (upcoming (own_in source)) g m → SealsAbove (peer_state g m source us)
 above s c source g m us b = record { reached = b.server.reached; reached_is = b.server.reached_is; served_least = b.server.least; asked_least = b.client.least }
 
 -- both roles are behind
-pub both_behind : {N : ℕ} (s : Server) (c : Client N) (next : ℕ) (h : server.History) (k : client.History) → ServerIsBehind s next h → ClientIsBehind c next k → AreBehind s c next h k
+pub both_behind : {N : ℕ} (s : ServerOf 1) (c : Client N) (next : ℕ) (h : server.History) (k : client.History) → ServerIsBehind s next h → ClientIsBehind c next k → AreBehind s c next h k
 both_behind s c next h k b a = record { server = b; client = a }
 
 -- ---- what the server does
 
 -- a peer's answer is a step, behind which the server is
-pub serves_step : {R : Type 0} {r : keeper.Ghosts R} (h : server.History) (event : server.Event) (entry : server.Entry) (old new : PeerSource R r) (after : Server)
+pub serves_step : {R : Type 0} {r : keeper.Ghosts R} (h : server.History) (event : server.Event) (entry : server.Entry) (old new : PeerSource R r) (after : ServerOf 1)
     → PeerStep h event entry (own_in old) (own_in new) after → Worked old new → (g : server.History) × Serves h event entry old g new × ServerIsBehind after (upcoming (own_in new)) g
 serves_step h event entry old new after (passed, passes, step) worked =
     let g = server.Then passed event entry in
@@ -117,7 +117,7 @@ took_step {r = r} h old a x reply g new o answer logs takes is below =
 
 -- a refused reply: by the record, which changes nothing else, or as the server answers
 pub refused_step : {R : Type 0} {r : keeper.Ghosts R} (h : server.History) (old : PeerSource R r) (ts : List (Option server.TicketValues)) (of : ℕ) (own : Bool) (mid : ℕ) (plain : List ℕ) (room : ℕ) (e : ReplyError)
-    (new : PeerSource R r) (us : List (Option server.TicketValues)) (t : server.TicketValues) (p : Parts) (before after : Server)
+    (new : PeerSource R r) (us : List (Option server.TicketValues)) (t : server.TicketValues) (p : Parts) (before after : ServerOf 1)
     → ticket_at ts of ≡ Some t → IsDatagram p plain → us ≡ ts → ServerIsBehind before (upcoming (own_in old)) h
     → (e ≡ replies.KeeperFailed → (after ≡ before) × (own_in new ≡ own_in old) × (r.failures new.keeper ≡ r.failures old.keeper + 1))
     → (e ≢ replies.KeeperFailed → r.failures new.keeper ≡ r.failures old.keeper) → r.received_floor old.keeper ≤ r.received_floor new.keeper
@@ -125,7 +125,7 @@ pub refused_step : {R : Type 0} {r : keeper.Ghosts R} (h : server.History) (old 
     → (g : server.History) × ReplyStep h old ts of own mid plain room (served.Replied (Err e)) g new us × ServerIsBehind after (upcoming (own_in new)) g
 refused_step h old ts of own mid plain room replies.KeeperFailed new us t p before after seen is back b failed worked rises answered =
     let f = failed refl in
-    (h, (t, seen, p, is, refl, f.1, (f.2, rises), back), server_at after h (upcoming (own_in old)) (upcoming (own_in new)) (ap upcoming f.1) (subst (λ (s : Server). ServerIsBehind s (upcoming (own_in old)) h) (sym f.0) b))
+    (h, (t, seen, p, is, refl, f.1, (f.2, rises), back), server_at after h (upcoming (own_in old)) (upcoming (own_in new)) (ap upcoming f.1) (subst (λ (s : ServerOf 1). ServerIsBehind s (upcoming (own_in old)) h) (sym f.0) b))
 refused_step h old ts of own mid plain room e new us t p before after seen is back b failed worked rises answered =
     let (g, serves, behind) = serves_step h (server.Reply t (asks_own t own) mid p room) (server.NotReplied e) old new after (answered (λ is. cc)) (worked (λ is. cc), rises) in
     (g, (t, seen, p, is, serves, back), behind)
@@ -140,7 +140,7 @@ asks_all t = or_true t.observes
 
 -- a refused challenge, in the same way
 pub unchallenged_step : {R : Type 0} {r : keeper.Ghosts R} (h : server.History) (old : PeerSource R r) (ts : List (Option server.TicketValues)) (of : ℕ) (mid : ℕ) (room : ℕ) (e : ReplyError)
-    (new : PeerSource R r) (us : List (Option server.TicketValues)) (t : server.TicketValues) (before after : Server)
+    (new : PeerSource R r) (us : List (Option server.TicketValues)) (t : server.TicketValues) (before after : ServerOf 1)
     → ticket_at ts of ≡ Some t → us ≡ ts → ServerIsBehind before (upcoming (own_in old)) h
     → (e ≡ replies.KeeperFailed → (after ≡ before) × (own_in new ≡ own_in old) × (r.failures new.keeper ≡ r.failures old.keeper + 1))
     → (e ≢ replies.KeeperFailed → r.failures new.keeper ≡ r.failures old.keeper) → r.received_floor old.keeper ≤ r.received_floor new.keeper
@@ -148,7 +148,7 @@ pub unchallenged_step : {R : Type 0} {r : keeper.Ghosts R} (h : server.History) 
     → (g : server.History) × ChallengeStep h old ts of mid room (served.Replied (Err e)) g new us × ServerIsBehind after (upcoming (own_in new)) g
 unchallenged_step h old ts of mid room replies.KeeperFailed new us t before after seen back b failed worked rises answered =
     let f = failed refl in
-    (h, (t, seen, refl, f.1, (f.2, rises), back), server_at after h (upcoming (own_in old)) (upcoming (own_in new)) (ap upcoming f.1) (subst (λ (s : Server). ServerIsBehind s (upcoming (own_in old)) h) (sym f.0) b))
+    (h, (t, seen, refl, f.1, (f.2, rises), back), server_at after h (upcoming (own_in old)) (upcoming (own_in new)) (ap upcoming f.1) (subst (λ (s : ServerOf 1). ServerIsBehind s (upcoming (own_in old)) h) (sym f.0) b))
 unchallenged_step h old ts of mid room e new us t before after seen back b failed worked rises answered =
     let message = unobeyed_message (echo_of (upcoming (own_in old))) in
     let (g, serves, behind) = serves_step h (server.Reply t (asks_own t true) mid message room) (server.NotReplied e) old new after (answered (λ is. cc)) (worked (λ is. cc), rises) in
@@ -156,7 +156,7 @@ unchallenged_step h old ts of mid room e new us t before after seen back b faile
 
 -- a refused notification, in the same way
 pub unnotified_step : {R : Type 0} {r : keeper.Ghosts R} (h : server.History) (old : PeerSource R r) (ts : List (Option server.TicketValues)) (of : ℕ) (plain : List ℕ) (room : ℕ) (e : ReplyError)
-    (new : PeerSource R r) (t : server.TicketValues) (p : Parts) (before after : Server)
+    (new : PeerSource R r) (t : server.TicketValues) (p : Parts) (before after : ServerOf 1)
     → ticket_at ts of ≡ Some t → IsDatagram p plain → ServerIsBehind before (upcoming (own_in old)) h
     → (e ≡ replies.KeeperFailed → (after ≡ before) × (own_in new ≡ own_in old) × (r.failures new.keeper ≡ r.failures old.keeper + 1))
     → (e ≢ replies.KeeperFailed → r.failures new.keeper ≡ r.failures old.keeper) → r.received_floor old.keeper ≤ r.received_floor new.keeper
@@ -164,7 +164,7 @@ pub unnotified_step : {R : Type 0} {r : keeper.Ghosts R} (h : server.History) (o
     → (g : server.History) × NotifyStep h old ts of plain room (served.Replied (Err e)) g new × ServerIsBehind after (upcoming (own_in new)) g
 unnotified_step h old ts of plain room replies.KeeperFailed new t p before after seen is b failed worked rises answered =
     let f = failed refl in
-    (h, (t, seen, p, is, refl, f.1, (f.2, rises)), server_at after h (upcoming (own_in old)) (upcoming (own_in new)) (ap upcoming f.1) (subst (λ (s : Server). ServerIsBehind s (upcoming (own_in old)) h) (sym f.0) b))
+    (h, (t, seen, p, is, refl, f.1, (f.2, rises)), server_at after h (upcoming (own_in old)) (upcoming (own_in new)) (ap upcoming f.1) (subst (λ (s : ServerOf 1). ServerIsBehind s (upcoming (own_in old)) h) (sym f.0) b))
 unnotified_step h old ts of plain room e new t p before after seen is b failed worked rises answered =
     let (g, serves, behind) = serves_step h (server.Notify t p room) (server.NotReplied e) old new after (answered (λ is. cc)) (worked (λ is. cc), rises) in
     (g, (t, seen, p, is, serves), behind)
@@ -180,7 +180,7 @@ asks_step k event entry old new after (passed, passes, step) worked =
 
 -- a refused request: by the record, which moves the client's clock alone, or as the client answers
 pub unsent_step : {R : Type 0} {r : keeper.Ghosts R} {N : ℕ} (h : server.History) (k : client.History) (ts us : List (Option server.TicketValues)) (q : Echoes) (old new : PeerSource R r) (now room : ℕ)
-    (e : RequestError) (p : Parts) (s d : Server) (before after : Client N) → AreBehind s before (upcoming (own_in old)) h k
+    (e : RequestError) (p : Parts) (s d : ServerOf 1) (before after : Client N) → AreBehind s before (upcoming (own_in old)) h k
     → d ≡ s → ∥ ((g : server.History) × ServerIsBehind d (upcoming (own_in new)) g) ∥₁
     → (e ≡ requests.KeeperFailed → (own_in new ≡ own_in old)
     × ((k : client.History) → ClientIsBehind before (upcoming (own_in old)) k → ClientIsBehind after (upcoming (own_in new)) (client.Then k (client.Advance now) client.Advanced))
@@ -196,17 +196,17 @@ unsent_step h k ts us q old new now room e p s d before after b same there faile
     (h, m, (asks, refl), record { server = server_carried s d h (upcoming (own_in old)) (upcoming (own_in new)) b.server same there; client = behind })
 
 -- an event of which only the client hears
-pub asked_alone : {R : Type 0} {r : keeper.Ghosts R} {N : ℕ} (s d : Server) (c : Client N) (old new : PeerSource R r) (h : server.History) (m : client.History)
+pub asked_alone : {R : Type 0} {r : keeper.Ghosts R} {N : ℕ} (s d : ServerOf 1) (c : Client N) (old new : PeerSource R r) (h : server.History) (m : client.History)
     → ServerIsBehind s (upcoming (own_in old)) h → ClientIsBehind c (upcoming (own_in old)) m → (d ≡ s) × (new ≡ old) → AreBehind d c (upcoming (own_in new)) h m
 asked_alone {R = R} {r = r} s d c old new h m b a same =
     let next = ap (λ (x : PeerSource R r). upcoming (own_in x)) same.1 in
     record {
-      server = server_at d h (upcoming (own_in old)) (upcoming (own_in new)) next (subst (λ (z : Server). ServerIsBehind z (upcoming (own_in old)) h) (sym same.0) b);
+      server = server_at d h (upcoming (own_in old)) (upcoming (own_in new)) next (subst (λ (z : ServerOf 1). ServerIsBehind z (upcoming (own_in old)) h) (sym same.0) b);
       client = client_at c m (upcoming (own_in old)) (upcoming (own_in new)) next a;
     }
 
 -- both clocks move
-pub both_advance : {R : Type 0} {r : keeper.Ghosts R} {N : ℕ} (s d : Server) (before after : Client N) (old new : PeerSource R r) (h : server.History) (k : client.History) (now : ℕ)
+pub both_advance : {R : Type 0} {r : keeper.Ghosts R} {N : ℕ} (s d : ServerOf 1) (before after : Client N) (old new : PeerSource R r) (h : server.History) (k : client.History) (now : ℕ)
     → AreBehind s before (upcoming (own_in old)) h k → Agrees d (server.Then h (server.Advance now) server.Advanced) → ClientAgrees after (client.Then k (client.Advance now) client.Advanced)
     → new ≡ old → AreBehind d after (upcoming (own_in new)) (server.Then h (server.Advance now) server.Advanced) (client.Then k (client.Advance now) client.Advanced)
 both_advance {R = R} {r = r} s d before after old new h k now b serves asks same =

@@ -19,7 +19,7 @@ use Rattle.osc_client.specs.ClientHistory as client
 use Rattle.osc_client.specs.Views.{ClientShows}
 use Rattle.osc_endpoint.specs.declared.client_event.ClientEntry.{ClientEntry}
 use Rattle.osc_endpoint.specs.declared.client_event.ClientEntry.TheVariants as asked
-use Rattle.osc_endpoint.specs.declared.server.Server.{Server}
+use Rattle.osc_endpoint.specs.declared.server.ServerOf.{ServerOf}
 use Rattle.osc_endpoint.specs.declared.server_event.ServerEntry.{ServerEntry}
 use Rattle.osc_endpoint.specs.declared.server_event.ServerEntry.TheVariants as served
 use Rattle.osc_endpoint.specs.ClientRun as client_run
@@ -74,7 +74,7 @@ abbrev pub with_echoes : {R : Type 0} {r : keeper.Ghosts R} → Echoes → PeerS
 with_echoes echoes s = record s { echoes = echoes }
 
 -- both roles are as their histories say, and have only numbers below this one (RFC 8613, 7.2.1)
-pub record AreBehind {n : ℕ} (s : Server) (c : Client n) (next : ℕ) (h : server.History) (k : client.History) : Type 0 where
+pub record AreBehind {n : ℕ} (s : ServerOf 1) (c : Client n) (next : ℕ) (h : server.History) (k : client.History) : Type 0 where
   pub server : ServerIsBehind s next h
   pub client : ClientIsBehind c next k
 

@@ -67,7 +67,7 @@ near_sealed laws n s x d a =
     let begin : World = forth (both_start x) in
     let taken : World = Then (Then begin (asking d.request)) (delivering 0 0 d.delivered d.echo d.request) in
     let asked : client.History = client.Then (client.New s 0 x.life_ms) (client.Request 0 d.request.plain d.request.room) (client.Sent d.request.bytes) in
-    let served : server.History = server.Then (server.Then server.Begin (server.Add s (starts.Fresh x.zero_number) x.size) (server.Added 0)) (server.Datagram 0 d.echo 0 d.request.bytes)
+    let served : server.History = server.Then (server.Then server.Begin (server.Add s (starts.Fresh x.zero_number) x.size 1) (server.Added 0)) (server.Datagram 0 d.echo 0 d.request.bytes)
     (server.Took (server.Deliver d.delivered (ticket_of 0 0 d.delivered)) []) in
     let life : Life = marked (Some (Delivered 0)) (born s (starts.Fresh x.zero_number) x.size) in
     let asks : AllAsk 0 asked = one_asks 0 _ refl in
@@ -84,7 +84,7 @@ far_sealed laws n s x d e a =
     let taken : World = Then (Then (Then (Then begin (asking e.request)) (delivering 0 1 e.delivered e.echo e.request)) server_passes) (Draws Server) in
     let passed : client.History = client.Then (client.New (turned s) 0 x.life_ms) (client.Skip 1) client.Skipped in
     let asked : client.History = client.Then passed (client.Request 0 e.request.plain e.request.room) (client.Sent e.request.bytes) in
-    let served : server.History = server.Then (server.Then (server.Then server.Begin (server.Add (turned s) (starts.Fresh x.zero_number) x.size) (server.Added 0))
+    let served : server.History = server.Then (server.Then (server.Then server.Begin (server.Add (turned s) (starts.Fresh x.zero_number) x.size 1) (server.Added 0))
     (server.Datagram 0 e.echo 0 e.request.bytes) (server.Took (server.Deliver e.delivered (ticket_of 0 1 e.delivered)) [])) (server.Skip 0 1) server.Skipped in
     let life : Life = marked (Some (PassedOver 1)) (marked (Some (Delivered 1)) (born (turned s) (starts.Fresh x.zero_number) x.size)) in
     let asks : AllAsk 1 asked = one_asks 1 _ refl in
@@ -110,7 +110,7 @@ back_sealed laws n s x d e lost c a =
     let asked2 : client.History = client.Then (client.Then asked1 (client.Datagram 0 e.response.bytes) (client.Took (client.Deliver e.heard 1))) (client.Restart 64) client.Restarted in
     let asked3 : client.History = client.Then asked2 (client.Request 0 c.request.plain c.request.room) (client.Sent c.request.bytes) in
     let asked4 : client.History = client.Then asked3 (client.Datagram 0 c.reply) (client.Took (client.Deliver c.heard 64)) in
-    let served1 : server.History = server.Then (server.Then (server.Then server.Begin (server.Add (turned s) (starts.Fresh x.zero_number) x.size) (server.Added 0))
+    let served1 : server.History = server.Then (server.Then (server.Then server.Begin (server.Add (turned s) (starts.Fresh x.zero_number) x.size 1) (server.Added 0))
     (server.Datagram 0 e.echo 0 e.request.bytes) (server.Took (server.Deliver e.delivered (ticket_of 0 1 e.delivered)) [])) (server.Skip 0 1) server.Skipped in
     let served2 : server.History = server.Then served1 (server.Reply (ticket_of 0 1 e.delivered) true 0 e.response.plain e.response.room) (server.Replied e.response.bytes) in
     let served3 : server.History = server.Then (server.Then served2 (server.Restart 0 64) server.Restarted) (server.Skip 0 1) server.Skipped in

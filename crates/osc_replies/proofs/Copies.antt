@@ -4,7 +4,7 @@ use Rattle.osc_coap.specs.OptionText.{placed}
 use Rattle.osc_coap.proofs.Placed.{front_placed}
 use Rattle.std.specs.List.{Contains}
 use Rattle.osc_coap.specs.Datagram.{Parts}
-use Rattle.osc_endpoint.specs.declared.server.Server.{Server}
+use Rattle.osc_endpoint.specs.declared.server.ServerOf.{ServerOf}
 use Rattle.osc_life.specs.ServerHistory.{History}
 use Rattle.osc_life.specs.declared.decision.Decided.{Decided}
 use Rattle.osc_life.specs.declared.decision.Decision.{Decision}
@@ -35,7 +35,7 @@ by_reason Unknown f h = inl (f refl)
 by_reason NoRoom f h = inr (h refl)
 
 -- what was decided, with the same reply elsewhere
-pub decides_by : (h : History) (now : ℕ) (fresh : Fresh) (d : List ℕ) (x : Decided) (left a b : List ℕ) (old new : Own) (s : Server) → a ≡ b
+pub decides_by : (h : History) (now : ℕ) (fresh : Fresh) (d : List ℕ) (x : Decided) (left a b : List ℕ) (old new : Own) (s : ServerOf 1) → a ≡ b
     → PeerDecides h now fresh d x left b old new s → PeerDecides h now fresh d x left a old new s
 decides_by h now fresh d x left a b old new s same decides = subst (λ (reply : List ℕ). PeerDecides h now fresh d x left reply old new s) (sym same) decides
 

@@ -21,7 +21,7 @@ use Rattle.osc_text.proofs.InputTexts.{Never, Refuses, prints_as, refusal_prints
 
 -- the context starts, and the line with this number is the first bad one
 abbrev StartsBadly : SecurityContext → Start → WindowSize → List ℕ → ℕ → Type 0
-StartsBadly s start size = BeginsBadly (λ i. ServerAnswer Begin (Add s start size) (Added i)) SpellsEvent
+StartsBadly s start size = BeginsBadly (λ i. ServerAnswer Begin (Add s start size 1) (Added i)) SpellsEvent
 
 -- the lines of a refused start
 abbrev refusal_lines : Entry → List (List ℕ)
@@ -35,19 +35,19 @@ server_two s start size bytes lines n (served i answer text) = inl text.3
 
 module _ {X : Type 0} (law : OneServerAnswer) (contents : X → Option (List ℕ)) (s : SecurityContext) (start : Start) (size : WindowSize) (bytes : List ℕ) (before after : X) (r : Result ℕ Fault) where
   -- a server that started prints what its input says
-  pub start_prints : (i : ℕ) → ServerAnswer Begin (Add s start size) (Added i)
-      → Prints contents (InputText SpellsEvent ServerLine (Then Begin (Add s start size) (Added i), []) bytes) (IsFirstBadLine SpellsEvent bytes) before after r
+  pub start_prints : (i : ℕ) → ServerAnswer Begin (Add s start size 1) (Added i)
+      → Prints contents (InputText SpellsEvent ServerLine (Then Begin (Add s start size 1) (Added i), []) bytes) (IsFirstBadLine SpellsEvent bytes) before after r
       → Prints contents (ServerText s start size bytes) (StartsBadly s start size bytes) before after r
   start_prints i answer p = prints_as contents before after r _ (ServerText s start size bytes) _ (StartsBadly s start size bytes) p (λ lines n text. served i answer text) back (λ n bad. (i, answer, bad)) (λ n bad. bad.2)
     where
-      back : (lines : List (List ℕ)) (n : ℕ) → ServerText s start size bytes lines n → InputText SpellsEvent ServerLine (Then Begin (Add s start size) (Added i), []) bytes lines n
-      back lines n (refused e answer_too text two) = let same = law Begin (Add s start size) (Added i) (NotAdded e) tt answer answer_too in cc same
+      back : (lines : List (List ℕ)) (n : ℕ) → ServerText s start size bytes lines n → InputText SpellsEvent ServerLine (Then Begin (Add s start size 1) (Added i), []) bytes lines n
+      back lines n (refused e answer_too text two) = let same = law Begin (Add s start size 1) (Added i) (NotAdded e) tt answer answer_too in cc same
       back lines n (served j answer_too text) =
-          let same = law Begin (Add s start size) (Added j) (Added i) tt answer_too answer in
-          subst (λ (x : Entry). InputText SpellsEvent ServerLine (Then Begin (Add s start size) x, []) bytes lines n) same text
+          let same = law Begin (Add s start size 1) (Added j) (Added i) tt answer_too answer in
+          subst (λ (x : Entry). InputText SpellsEvent ServerLine (Then Begin (Add s start size 1) x, []) bytes lines n) same text
 
   -- a refused start is printed
-  pub no_start_prints : (e : AddError) → ServerAnswer Begin (Add s start size) (NotAdded e) → Writes (contents before) (contents after) (refused_line (add_error_text e) ∷ []) r → IfOk r (λ n. n ≡ 2)
+  pub no_start_prints : (e : AddError) → ServerAnswer Begin (Add s start size 1) (NotAdded e) → Writes (contents before) (contents after) (refused_line (add_error_text e) ∷ []) r → IfOk r (λ n. n ≡ 2)
       → Prints contents (ServerText s start size bytes) (StartsBadly s start size bytes) before after r
   no_start_prints e answer w two =
       prints_as contents before after r (Refuses (refused_line (add_error_text e))) (ServerText s start size bytes) Never (StartsBadly s start size bytes) (refusal_prints contents before after r (refused_line (add_error_text e)) w two)
@@ -55,9 +55,9 @@ module _ {X : Type 0} (law : OneServerAnswer) (contents : X → Option (List ℕ
     where
       back : (lines : List (List ℕ)) (n : ℕ) → ServerText s start size bytes lines n → Refuses (refused_line (add_error_text e)) lines n
       back lines n (refused f answer_too text status) =
-          let same = law Begin (Add s start size) (NotAdded f) (NotAdded e) tt answer_too answer in
+          let same = law Begin (Add s start size 1) (NotAdded f) (NotAdded e) tt answer_too answer in
           (text ∙ ap refusal_lines same, status)
-      back lines n (served j answer_too text) = let same = law Begin (Add s start size) (NotAdded e) (Added j) tt answer answer_too in cc same
+      back lines n (served j answer_too text) = let same = law Begin (Add s start size 1) (NotAdded e) (Added j) tt answer answer_too in cc same
 
       never : (n : ℕ) → StartsBadly s start size bytes n → ⊥
-      never n bad = let same = law Begin (Add s start size) (NotAdded e) (Added bad.0) tt answer bad.1 in cc same
+      never n bad = let same = law Begin (Add s start size 1) (NotAdded e) (Added bad.0) tt answer bad.1 in cc same

@@ -72,7 +72,7 @@ FollowedBy contents tells g Begins spells step input =
 
 -- a server that started, with no ticket yet (RFC 8613, B.1)
 abbrev pub StartsServer : SecurityContext → Start → WindowSize → History × List (Option TicketValues) → Type 0
-StartsServer c start size s = (index : ℕ) × ServerAnswer Begin (Add c start size) (Added index) × (s ≡ (Then Begin (Add c start size) (Added index), []))
+StartsServer c start size s = (index : ℕ) × ServerAnswer Begin (Add c start size 1) (Added index) × (s ≡ (Then Begin (Add c start size 1) (Added index), []))
 
 -- a client that begins, with nothing pending (RFC 8613, 8.1)
 abbrev pub IsNewClient : SecurityContext → Asking → client.History → Type 0

@@ -27,7 +27,7 @@ KeptLine s event line t = LineOf ServerStep kept_seen IsRoomy kept_text s event 
 abbrev pub Starts : {K : Type 0} (k : keeper.Ghosts K) → SecurityContext → WindowSize → K → ServerState k → Type 0
 Starts {K} k c size keeper s = (loaded : ℕ) × (mid : K) × (start : Start) × Loaded k.loads k.failures keeper loaded mid × IsStart start loaded
     × (own_in s.source ≡ started start loaded (nothing_drawn (k.floor keeper))) × (k.failures s.source.keeper ≡ k.failures keeper)
-    × (s.history ≡ Then Begin (Add c start size) (Added 0)) × (s.tickets ≡ [])
+    × (s.history ≡ Then Begin (Add c start size 1) (Added 0)) × (s.tickets ≡ [])
 
 -- what `run` prints for a server: one line for each event of the input (RFC 8613, 7.2.1, 7.4, 8.2, 8.3, 8.3.1 and B.1)
 abbrev pub KeptServeText : {K : Type 0} (k : keeper.Ghosts K) → Agreed → WindowSize → K → List ℕ → Told

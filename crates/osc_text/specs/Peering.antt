@@ -33,7 +33,7 @@ StartsPeer {R} r server client peering keeper s = (sender : ℕ) × (received : 
     × (r.received_floor keeper ≤ received) × (r.received_floor keeper ≤ r.received_floor s.source.keeper) × IsPeerStart peering.ahead start sender received
     × (own_in s.source ≡ started start sender (nothing_drawn (r.sender_floor keeper))) × Allowed (Load sender) (nothing_drawn (r.sender_floor keeper))
     × (r.failures s.source.keeper ≡ r.failures keeper)
-    × (s.served ≡ Then Begin (Add server start peering.window) (Added 0)) × (s.asked ≡ New client sender peering.life_ms) × (s.tickets ≡ []) × (s.echoes ≡ no_echoes)
+    × (s.served ≡ Then Begin (Add server start peering.window 1) (Added 0)) × (s.asked ≡ New client sender peering.life_ms) × (s.tickets ≡ []) × (s.echoes ≡ no_echoes)
 
 -- what `run` prints for a peer: one line for each event of the input (RFC 8613, 7.2.1, 7.4, 8.1 to 8.4 and B.1)
 abbrev pub PeerText : {R : Type 0} (r : keeper.Ghosts R) → Agreed → Peering → R → List ℕ → Told

@@ -81,9 +81,9 @@ start_of serving = if serving.is_restarted then starts.Restarted serving.next el
 
 -- what a server prints under a context: the line of a refused start, or one line for each event of the input (RFC 8613, 7.4, 8.2, 8.3 and 8.3.1)
 pub data ServerText (s : SecurityContext) (start : Start) (size : WindowSize) (bytes : List ℕ) (lines : List (List ℕ)) (status : ℕ) : Type 0 where
-  not_started : (e : AddError) → ServerAnswer Begin (Add s start size) (NotAdded e) → lines ≡ refused_line (add_error_text e) ∷ [] → status ≡ 2 → ServerText s start size bytes lines status
-  served : (index : ℕ) → ServerAnswer Begin (Add s start size) (Added index)
-      → InputText SpellsEvent ServerLine (Then Begin (Add s start size) (Added index), []) bytes lines status → ServerText s start size bytes lines status
+  not_started : (e : AddError) → ServerAnswer Begin (Add s start size 1) (NotAdded e) → lines ≡ refused_line (add_error_text e) ∷ [] → status ≡ 2 → ServerText s start size bytes lines status
+  served : (index : ℕ) → ServerAnswer Begin (Add s start size 1) (Added index)
+      → InputText SpellsEvent ServerLine (Then Begin (Add s start size 1) (Added index), []) bytes lines status → ServerText s start size bytes lines status
 
 -- what `run` prints for a server (RFC 8613, 7.4, 8.2, 8.3 and 8.3.1)
 abbrev pub ServeText : Agreed → Serving → List ℕ → Told
@@ -91,4 +91,4 @@ ServeText g serving bytes = InContext g.params (ServerText (agreed_server g) (st
 
 -- the context is derived and starts, and the line with this number, counted from 1, is the first that spells no event (own rule)
 abbrev pub HasBadLine : Agreed → Serving → List ℕ → ℕ → Type 0
-HasBadLine g serving = HasBadLineOf g.params (λ index. ServerAnswer Begin (Add (agreed_server g) (start_of serving) serving.window) (Added index)) SpellsEvent
+HasBadLine g serving = HasBadLineOf g.params (λ index. ServerAnswer Begin (Add (agreed_server g) (start_of serving) serving.window 1) (Added index)) SpellsEvent

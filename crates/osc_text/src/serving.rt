@@ -13,7 +13,7 @@ use crate::lines::put_refused;
 use osc_coap::one_datagram;
 use osc_context::{Context, Piv};
 use osc_endpoint::siblings::serve_event;
-use osc_endpoint::{Server, ServerEvent, Start, Ticket, run_server};
+use osc_endpoint::{ServerEvent, ServerOf, Start, Ticket, run_server};
 use osc_laws::one_server_answer;
 use osc_window::WindowSize;
 use std::alloc::Global;
@@ -102,7 +102,7 @@ pub fn serve_following<R: BufRead, W: Write>(
 impl Beginning for Serving {
     ghost promised = { λ serving client server feed X contents before after r. ByFeed
         (λ input. Prints contents (ServerText server (start_of serving) serving.window input)
-        (BeginsBadly (λ i. ServerAnswer Begin (Add server (start_of serving) serving.window) (Added i)) SpellsEvent input) before after r)
+        (BeginsBadly (λ i. ServerAnswer Begin (Add server (start_of serving) serving.window 1) (Added i)) SpellsEvent input) before after r)
         (λ input. FollowedUnder contents (ServerText server (start_of serving) serving.window input)
         (StartsServer server (start_of serving) serving.window) SpellsEvent ServerLine input before after r) (EndsWell r) feed };
 
@@ -116,7 +116,7 @@ impl Beginning for Serving {
         // For the proof alone.
         one_server_answer();
         one_datagram();
-        let mut server = Server::new();
+        let mut server = ServerOf::<1>::new();
         match server.add(context, self.start(), self.window) {
             Ok(_index) => input.run(alloc, &mut server, out),
             Err(refusal) => put_refused(alloc, refusal, out),
@@ -124,7 +124,7 @@ impl Beginning for Serving {
     }
 }
 
-impl End for Server {
+impl End for ServerOf<1> {
     type Event = ServerEvent;
 
     type Memory = Vec<Option<Ticket>>;

@@ -9,7 +9,7 @@ ghost use Rattle.osc_callers.specs.PremisesMet.{PremisesAreMet};
 
 use osc_coap::parse;
 use osc_context::usable_contexts;
-use osc_endpoint::{Client, Server};
+use osc_endpoint::{Client, ServerOf};
 use osc_kept::premises_can_be_met;
 use steps::{
     answer, ask, challenge, contexts, deliver, hear, plain, restart, start_client, start_server,
@@ -31,7 +31,7 @@ const AGAIN: &[u8] = b"\x41\x01\x00\x00\x02\xb3tv1\xd8\xe4\x01\x02\x03\x04\x05\x
 const REPLY: &[u8] = b"\x60\x45\x00\x00\xffHello World!";
 
 /// Starts both ends at 0, with the context of RFC 8613, C.1.
-fn start() -> Option<(Client<8>, Server)>
+fn start() -> Option<(Client<8>, ServerOf<1>)>
     ensures { IfSome result (λ ends. Start ends.0 ends.1) }
 {
     usable_contexts();
@@ -42,7 +42,7 @@ fn start() -> Option<(Client<8>, Server)>
 }
 
 /// Has the client ask, the server deliver and reply, and the client hear the reply.
-fn exchange(client: &mut Client<8>, server: &mut Server, echo: [u8; 8]) -> Option<()>
+fn exchange(client: &mut Client<8>, server: &mut ServerOf<1>, echo: [u8; 8]) -> Option<()>
     ensures { IsSome result → Exchange client.old client.new server.old server.new echo }
 {
     let first = plain(FIRST)?;
@@ -55,7 +55,7 @@ fn exchange(client: &mut Client<8>, server: &mut Server, echo: [u8; 8]) -> Optio
 }
 
 /// Has the client ask, the server challenge, the client hear the challenge and ask again, and the server deliver.
-fn go_on(client: &mut Client<8>, server: &mut Server, echo: [u8; 8]) -> Option<()>
+fn go_on(client: &mut Client<8>, server: &mut ServerOf<1>, echo: [u8; 8]) -> Option<()>
     ensures { IsSome result → GoesOn client.old client.new server.old server.new echo }
 {
     let second = plain(SECOND)?;

@@ -15,7 +15,7 @@ ghost use Rattle.osc_callers.specs.Calls.{Asks, Challenges, ClientGoes, Delivers
 
 use osc_coap::{Message, option_numbers, parse};
 use osc_context::{Context, Params, Piv};
-use osc_endpoint::{Client, ClientOutcome, Fresh, Outcome, Server, Start, Taken, Ticket};
+use osc_endpoint::{Client, ClientOutcome, Fresh, Outcome, ServerOf, Start, Taken, Ticket};
 use osc_protect::sealed_opens;
 use osc_window::WindowSize;
 
@@ -67,12 +67,12 @@ pub fn start_client(context: Context) -> Option<Client<8>>
 }
 
 /// Starts a server fresh at 0, with this context alone.
-pub fn start_server(context: Context) -> Option<Server>
+pub fn start_server(context: Context) -> Option<ServerOf<1>>
     ensures { IfSome result (λ server. (s : SecurityContext) → as_server context ≡ s → (zero : PartialIv) × (number_of zero ≡ 0)
-        × ServerGoes serving.Begin (serving.Add s (starts.Fresh zero) Places32) (serving.Added 0) server) }
+        × ServerGoes serving.Begin (serving.Add s (starts.Fresh zero) Places32 1) (serving.Added 0) server) }
 {
     let zero = Piv::new(0)?;
-    let mut server = Server::new();
+    let mut server = ServerOf::<1>::new();
     match server.add(context, Start::Fresh(zero), WindowSize::Places32) {
         Ok(_) => Some(server),
         Err(_) => None,
@@ -102,7 +102,7 @@ pub fn hear(client: &mut Client<8>, number: u64, datagram: &mut [u8]) -> Option<
 
 /// Passes a datagram to the server, which delivers it as the request with this number that registers nothing, and sends nothing.
 pub fn deliver(
-    server: &mut Server,
+    server: &mut ServerOf<1>,
     number: u64,
     echo: [u8; 8],
     datagram: &mut [u8],
@@ -121,7 +121,7 @@ pub fn deliver(
 /// Passes a datagram to the server, which challenges it with the fresh Echo value. Returns how many bytes the challenge takes at the front
 /// of `out`.
 pub fn challenge(
-    server: &mut Server,
+    server: &mut ServerOf<1>,
     echo: [u8; 8],
     datagram: &mut [u8],
     out: &mut [u8; 64],
@@ -147,7 +147,7 @@ pub fn challenge(
 /// Has the server reply to the request of a ticket, without a Partial IV of its own. Returns how many bytes the reply takes at the front of
 /// `out`.
 pub fn answer(
-    server: &mut Server,
+    server: &mut ServerOf<1>,
     ticket: Ticket,
     plain: &Message<'_>,
     out: &mut [u8],
@@ -159,7 +159,7 @@ pub fn answer(
 }
 
 /// Restarts both ends at 64.
-pub fn restart(client: &mut Client<8>, server: &mut Server) -> Option<()>
+pub fn restart(client: &mut Client<8>, server: &mut ServerOf<1>) -> Option<()>
     ensures client { IsSome result → (h : asking.History) → ClientAgrees client.old h
         → ClientGoes h (asking.Restart 64) asking.Restarted client.new }
     ensures server { IsSome result → (h : serving.History) → Agrees server.old h

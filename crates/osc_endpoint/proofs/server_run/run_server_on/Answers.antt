@@ -12,7 +12,7 @@ use Rattle.osc_endpoint.proofs.Runs.{run_on}
 use Rattle.osc_endpoint.proofs.server_run.run_server_on.Goals as goal
 
 pub loop-log-preserved : goal.loop-log-preserved
-loop-log-preserved c =
+loop-log-preserved g c =
     let xs = c.args.events.now.now in
     let i = vec_len c.loop-log.log in
     let nonempty : i < length xs = grind (arith, common_steps) in
@@ -39,7 +39,7 @@ loop-log-preserved c =
     }
 
 pub returns-in-Err-clause-tickets : goal.returns-in-Err-clause-tickets
-returns-in-Err-clause-tickets c = λ h g us run takes. run_takes h g us _ _ run takes
+returns-in-Err-clause-tickets g c = λ h g us run takes. run_takes h g us _ _ run takes
 
 pub returns-clause-tickets : goal.returns-clause-tickets
-returns-clause-tickets c = λ h g us run takes. run_takes h g us _ _ run takes
+returns-clause-tickets g c = λ h g us run takes. run_takes h g us _ _ run takes

@@ -5,7 +5,7 @@ use Rattle.osc_endpoint.specs.ServerRun.{Run, values_in}
 use Rattle.osc_endpoint.proofs.server_run.run_server_on.Given as goal
 
 abbrev pub invariant-loop-log : goal.invariant-loop-log
-invariant-loop-log l = record {
+invariant-loop-log g l = record {
   within : vec_len l.log ≤ length l.fn.events.now;
   rest_is : l.rest ≡ drop (vec_len l.log) l.fn.events.now;
   run : (h : History) → Agrees l.fn.server h
@@ -13,4 +13,4 @@ invariant-loop-log l = record {
 }
 
 abbrev pub decreases-loop-log : goal.decreases-loop-log
-decreases-loop-log l = length l.rest
+decreases-loop-log g l = length l.rest

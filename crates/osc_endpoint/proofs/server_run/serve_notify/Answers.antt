@@ -8,12 +8,12 @@ use Rattle.osc_endpoint.proofs.Runs.{number_is, ticket_seen}
 use Rattle.osc_endpoint.proofs.server_run.serve_notify.Goals as goal
 
 pub returns-in-Err : goal.returns-in-Err
-returns-in-Err c = λ h a.
+returns-in-Err g c = λ h a.
     let seen = ticket_seen c.args.tickets.now c.args.of ∙ ap (option_map values_of) (sym c.in-Some.ensures) in
     (h, (values_of c.in-Some.ticket.now, seen, c.in-Err.ensures.refused, refl), a)
 
 pub returns-in-Ok-notify : goal.returns-in-Ok-notify
-returns-in-Ok-notify c = λ h a.
+returns-in-Ok-notify g c = λ h a.
     let seen = ticket_seen c.args.tickets.now c.args.of ∙ ap (option_map values_of) (sym c.in-Some.ensures) in
     let t = values_of c.in-Some.ticket.now in
     let row = c.in-Ok-notify.ensures.answered h a in
@@ -22,6 +22,6 @@ returns-in-Ok-notify c = λ h a.
     (_, (t, seen, parts_of c.in-Ok.message, c.in-Ok.ensures.accepted, (row, refl), number), c.in-Ok-notify.ensures.follows h a)
 
 pub returns-in-Err-notify : goal.returns-in-Err-notify
-returns-in-Err-notify c = λ h a.
+returns-in-Err-notify g c = λ h a.
     let seen = ticket_seen c.args.tickets.now c.args.of ∙ ap (option_map values_of) (sym c.in-Some.ensures) in
     (_, (values_of c.in-Some.ticket.now, seen, parts_of c.in-Ok.message, c.in-Ok.ensures.accepted, (c.in-Err-notify.ensures.answered h a, refl)), c.in-Err-notify.ensures.follows h a)

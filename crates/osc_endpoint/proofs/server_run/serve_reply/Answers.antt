@@ -12,16 +12,16 @@ use Rattle.osc_endpoint.proofs.Runs.{no_ticket, number_is, put_again, ticket_see
 use Rattle.osc_endpoint.proofs.server_run.serve_reply.Goals as goal
 
 pub returns-in_default : goal.returns-in_default
-returns-in_default c = λ h a. no_ticket h c.args.server.now c.args.tickets.now c.take_out.new.tickets c.args.of a (sym c.in_default.is ∙ c.take_out.ensures.ticket) c.take_out.ensures.rest
+returns-in_default g c = λ h a. no_ticket h c.args.server.now c.args.tickets.now c.take_out.new.tickets c.args.of a (sym c.in_default.is ∙ c.take_out.ensures.ticket) c.take_out.ensures.rest
 
 pub returns-in-Err : goal.returns-in-Err
-returns-in-Err c = λ h a.
+returns-in-Err g c = λ h a.
     let ts = c.args.tickets.now in
     let seen = ticket_seen ts c.args.of ∙ ap (option_map values_of) (sym c.in-Some.ensures.ticket) in
     (h, (values_of c.in-Some.ticket, seen, c.in-Err.ensures.refused, refl, ap values_in (c.put_back.ensures ∙ ap (λ xs. slice_set xs c.args.of (Some c.in-Some.ticket)) c.take_out.ensures.rest ∙ put_again ts c.args.of c.in-Some.ticket c.in-Some.ensures.ticket)), a)
 
 pub returns-in-Ok-reply : goal.returns-in-Ok-reply
-returns-in-Ok-reply c = λ h a.
+returns-in-Ok-reply g c = λ h a.
     let ts = c.args.tickets.now in
     let seen = ticket_seen ts c.args.of ∙ ap (option_map values_of) (sym c.in-Some.ensures.ticket) in
     let t = values_of c.in-Some.ticket in
@@ -32,7 +32,7 @@ returns-in-Ok-reply c = λ h a.
     (_, (t, seen, parts_of c.in-Ok.message, c.in-Ok.ensures.accepted, (row, refl), ap values_in c.take_out.ensures.rest ∙ values_taken ts c.args.of, number), c.in-Ok-reply.ensures.follows h a)
 
 pub returns-in-Err-reply : goal.returns-in-Err-reply
-returns-in-Err-reply c = λ h a.
+returns-in-Err-reply g c = λ h a.
     let ts = c.args.tickets.now in
     let seen = ticket_seen ts c.args.of ∙ ap (option_map values_of) (sym c.in-Some.ensures.ticket) in
     let back = c.put_back-in-Err-reply.ensures ∙ ap (λ x. slice_set c.take_out.new.tickets c.args.of (Some x)) c.in-Err-reply.ensures.back ∙ ap (λ xs. slice_set xs c.args.of (Some c.in-Some.ticket)) c.take_out.ensures.rest ∙ put_again ts c.args.of c.in-Some.ticket c.in-Some.ensures.ticket in

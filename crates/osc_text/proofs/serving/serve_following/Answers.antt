@@ -20,7 +20,7 @@ returns g c =
     let before = c.args.out.now in
     let after = c.write_run.new.out in
     let known = g.R.Read.remaining c.args.input.now in
-    let Whole = λ (bytes : List ℕ). Prints contents (ServerText s (start_of v) v.window bytes) (BeginsBadly (λ (i : ℕ). ServerAnswer Begin (Add s (start_of v) v.window) (Added i)) SpellsEvent bytes) before after r in
+    let Whole = λ (bytes : List ℕ). Prints contents (ServerText s (start_of v) v.window bytes) (BeginsBadly (λ (i : ℕ). ServerAnswer Begin (Add s (start_of v) v.window 1) (Added i)) SpellsEvent bytes) before after r in
     let Starts = StartsServer s (start_of v) v.window in
     let tells = ServerText s (start_of v) v.window in
     record {

@@ -17,7 +17,7 @@ invariant_of-result g c =
     let a = c.in-Ok.ensures.follows Begin c.new-server.ensures in
     record {
       served = merely (
-        Then Begin (Add (as_server c.args.context) c.args.start c.args.size) (Added 0),
+        Then Begin (Add (as_server c.args.context) c.args.start c.args.size 1) (Added 0),
         kept_behind _ _ _ (added_alone _ (as_server c.args.context) c.args.start c.args.size c.in-Ok.field-0 (upcoming (own_in c.args.source)) a
             (c.in-Ok.ensures.answered Begin c.new-server.ensures).1.2 (c.requires.next ∙ sym c.requires.first)),
       );

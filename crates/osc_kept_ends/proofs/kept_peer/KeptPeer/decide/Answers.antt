@@ -3,7 +3,7 @@ use Rattle.std.proofs.Math.Logic.{∥∥₁_map}
 use Rattle.std.proofs.lemmas.Bool.{cases_lt}
 use Rattle.std.proofs.lemmas.Grind.{not_there}
 use Rattle.osc_context.specs.Views.{limit_of, next_of}
-use Rattle.osc_endpoint.specs.declared.server.Server.{Server}
+use Rattle.osc_endpoint.specs.declared.server.ServerOf.{ServerOf}
 use Rattle.osc_kept_ends.specs.EchoNumber.{echo_of}
 use Rattle.osc_kept_ends.specs.KeptServing.{KeptDecides}
 use Rattle.osc_kept_ends.specs.Views.{own_at}
@@ -125,7 +125,7 @@ returns-clause-answered g c = λ before b.
       g = h;
       passes = passes;
       mid = used;
-      decides = subst (λ (s : Server). KeptDecides h c.args.now (record { echo = echo_of (upcoming old); mid = c.args.mid }) c.args.datagram.now decided left reply old used s) (sym (c.in_ok-keep_delivery.ensures.same refl))
+      decides = subst (λ (s : ServerOf 1). KeptDecides h c.args.now (record { echo = echo_of (upcoming old); mid = c.args.mid }) c.args.datagram.now decided left reply old used s) (sym (c.in_ok-keep_delivery.ensures.same refl))
           (subst (λ (e : List ℕ). KeptDecides h c.args.now (record { echo = e; mid = c.args.mid }) c.args.datagram.now decided left reply old used c.decide_drawn-decided.new.server) fresh_is t);
       kept_on = c.keep_delivery.ensures.kept_on;
     }

@@ -1,7 +1,7 @@
 use Rattle.std.proofs.Common.{◌∙◌, sym, ap, subst, Some}
 use Rattle.std.proofs.Math.Logic.{∥∥₁_map}
 use Rattle.osc_context.specs.Views.{number_of}
-use Rattle.osc_endpoint.specs.declared.server.Server.{Server}
+use Rattle.osc_endpoint.specs.declared.server.ServerOf.{ServerOf}
 use Rattle.osc_endpoint.specs.Agrees.{Agrees}
 use Rattle.osc_life.specs.ServerHistory.{Then, Restart, Restarted, life}
 use Rattle.osc_kept_ends.specs.Numbering.{upcoming}
@@ -19,7 +19,7 @@ invariant_of-self-in_default g c = record {
   kept = ∥∥₁_map c.args.self.now.kept (λ x. (
     x.0,
     record {
-      agrees = subst (λ (s : Server). Agrees s x.0) (sym c.in_default.ensures.unchanged) x.1.agrees;
+      agrees = subst (λ (s : ServerOf 1). Agrees s x.0) (sym c.in_default.ensures.unchanged) x.1.agrees;
       one = x.1.one;
       next_is = x.1.next_is ∙ ap Some (sym (ap upcoming c.reload.ensures.left.0));
     },

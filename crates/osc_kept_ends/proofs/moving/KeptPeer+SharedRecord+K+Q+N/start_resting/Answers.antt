@@ -35,7 +35,7 @@ returns-clause-begins g c =
       c.in_ok-received.ensures.begins,
       ap own_in same ∙ c.resting-source.ensures.numbers,
       subst (λ s. IsNone (sender_in s.keeper)) (sym same) (subst (λ r. IsNone (sender_in r)) (sym c.resting-source.ensures.keeper) refl),
-      subst (λ n. ServerIsBehind c.begin.result.server n (Then Begin (Add (as_server c.args.context) start c.args.size) (Added 0))) zero c.begin.ensures.server,
+      subst (λ n. ServerIsBehind c.begin.result.server n (Then Begin (Add (as_server c.args.context) start c.args.size 1) (Added 0))) zero c.begin.ensures.server,
       subst (λ n. ClientIsBehind c.begin.result.client 0 (New (as_client c.args.context) n c.args.life_ms)) first
           (subst (λ n. ClientIsBehind c.begin.result.client n (New (as_client c.args.context) (number_of c.in-Some.first) c.args.life_ms)) zero c.begin.ensures.client),
     )

@@ -11,7 +11,7 @@ use Rattle.osc_peer_handle.proofs.peer_handle.PeerHandle.begin_again.Goals as go
 pub returns-clause-server : goal.returns-clause-server
 returns-clause-server c =
     subst (λ n. (start : Start) × IsPeerStart 0 start n c.args.kept.now.received × ((floor : ℕ) → floor ≤ n → ServesBehind c.in-Some-begin.peer (after (Load n) (nothing_drawn floor))
-    (served.Then served.Begin (served.Add (server_in c.args.context.now) start c.args.size) (served.Added 0)))) c.in-Some.ensures.made c.in-Some-begin.ensures.server
+    (served.Then served.Begin (served.Add (server_in c.args.context.now) start c.args.size 1) (served.Added 0)))) c.in-Some.ensures.made c.in-Some-begin.ensures.server
 
 pub returns-clause-client : goal.returns-clause-client
 returns-clause-client c =

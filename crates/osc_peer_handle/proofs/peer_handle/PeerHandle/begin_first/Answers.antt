@@ -11,4 +11,4 @@ use Rattle.osc_peer_handle.proofs.peer_handle.PeerHandle.begin_first.Goals as go
 pub returns-clause-server : goal.returns-clause-server
 returns-clause-server c =
     subst (λ n. IfSome c.begin.result (λ p. (start : Start) × IsPeerStart 0 start n 0 × ((floor : ℕ) → floor ≤ n → ServesBehind p (after (Load n) (nothing_drawn floor))
-    (served.Then served.Begin (served.Add (server_in c.args.context.now) start c.args.size) (served.Added 0))))) c.in-Some.ensures.made c.begin.ensures.server
+    (served.Then served.Begin (served.Add (server_in c.args.context.now) start c.args.size 1) (served.Added 0))))) c.in-Some.ensures.made c.begin.ensures.server

@@ -25,14 +25,14 @@ returns-in-Ok g c =
     let s = as_server c.args.context in
     let v = c.args.self in
     let i = c.in-Ok._index in
-    let h = Then Begin (Add s (start_of v) v.window) (Added i) in
+    let h = Then Begin (Add s (start_of v) v.window 1) (Added i) in
     let law = c.one_datagram.ensures in
     let contents = g.W.Write.contents in
     let before = c.args.out.now in
     let after = c.run.new.out in
     let r = c.run.result in
-    let answer = subst (λ (start : Start). ServerAnswer Begin (Add s start v.window) (Added i)) c.start.ensures (c.in-Ok.ensures.answered Begin c.new-server.ensures) in
-    let agrees = subst (λ (start : Start). Agrees c.add.new.self (Then Begin (Add s start v.window) (Added i))) c.start.ensures (c.in-Ok.ensures.follows Begin c.new-server.ensures) in
+    let answer = subst (λ (start : Start). ServerAnswer Begin (Add s start v.window 1) (Added i)) c.start.ensures (c.in-Ok.ensures.answered Begin c.new-server.ensures) in
+    let agrees = subst (λ (start : Start). Agrees c.add.new.self (Then Begin (Add s start v.window 1) (Added i))) c.start.ensures (c.in-Ok.ensures.follows Begin c.new-server.ensures) in
     by_feed _ _ _ _ _ _ (g.I.Input.feed c.args.input)
     (λ bytes runs. start_prints c.one_server_answer.ensures contents s (start_of v) v.window bytes before after r i answer
     (input_prints contents SpellsEvent ServerLine event_seen IsOfRun _ (one_spelling SpellsEvent event_read server_inverse) (λ t. AllAnswers t.0)
@@ -51,7 +51,7 @@ returns-in-Err g c =
     let before = c.args.out.now in
     let after = c.put_refused.new.out in
     let r = c.put_refused.result in
-    let answer = subst (λ (start : Start). ServerAnswer Begin (Add s start v.window) (NotAdded e)) c.start.ensures (c.in-Err.ensures.answered Begin c.new-server.ensures) in
+    let answer = subst (λ (start : Start). ServerAnswer Begin (Add s start v.window 1) (NotAdded e)) c.start.ensures (c.in-Err.ensures.answered Begin c.new-server.ensures) in
     any_feed _ _ _ (g.I.Input.feed c.args.input)
     (λ bytes. no_start_prints c.one_server_answer.ensures contents s (start_of v) v.window bytes before after r e answer c.put_refused.ensures.written c.put_refused.ensures.status)
     (λ bytes. refusal_followed contents before after (ServerText s (start_of v) v.window bytes) _ _ r (refused_line (add_error_text e)) (not_started e answer refl refl) c.put_refused.ensures.written c.put_refused.ensures.status)

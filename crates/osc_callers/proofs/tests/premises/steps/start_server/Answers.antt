@@ -10,7 +10,7 @@ use Rattle.osc_callers.proofs.tests.premises.steps.start_server.Goals as goal
 pub returns-in-Ok : goal.returns-in-Ok
 returns-in-Ok c = λ s is.
     let zero = c.in_ok-zero.zero in
-    let goes : SecurityContext → ℕ → Type 0 = λ z i. ServerGoes serving.Begin (serving.Add z (starts.Fresh zero) Places32) (serving.Added i) c.add.new.self in
+    let goes : SecurityContext → ℕ → Type 0 = λ z i. ServerGoes serving.Begin (serving.Add z (starts.Fresh zero) Places32 1) (serving.Added i) c.add.new.self in
     let row = c.in-Ok.ensures.answered serving.Begin c.new-server.ensures in
     let went : goes (as_server c.args.context) c.in-Ok.field-0 = (row, c.in-Ok.ensures.follows serving.Begin c.new-server.ensures) in (
       zero,
