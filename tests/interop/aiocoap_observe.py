@@ -61,8 +61,8 @@ async def next_line() -> str:
     return await asyncio.get_running_loop().run_in_executor(None, sys.stdin.readline)
 
 
-async def serve(folder: str, port: int) -> None:
-    site, credentials, temperature = aiocoap.resource.Site(), CredentialsMap(), Temperature()
+async def serve(folder: str, port: int, temperature: Temperature) -> None:
+    site, credentials = aiocoap.resource.Site(), CredentialsMap()
     site.add_resource([PATH], temperature)
     credentials[":context"] = Context(folder)
     await aiocoap.Context.create_server_context(OscoreSiteWrapper(site, credentials), bind=("127.0.0.1", port),
@@ -105,7 +105,7 @@ async def observe(folder: str, port: int, token_len: int, count: int = 0) -> Non
 
 def main(role: str, folder: str, *numbers: str) -> None:
     logging.disable(logging.CRITICAL)
-    asyncio.run({"observer": observe, "observed": serve}[role](folder, *map(int, numbers)))
+    asyncio.run(observe(folder, *map(int, numbers)) if role == "observer" else serve(folder, *map(int, numbers), Temperature()))
 
 
 if __name__ == "__main__":

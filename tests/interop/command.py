@@ -114,10 +114,13 @@ class Server(UdpServer):
             return Answer(bytes.fromhex(words[place]) if place and len(words) > place else None, False)
         self.delivered.append(int(words[2]))
         code, options, payload = code_of(words[3]), tuple(options_of(words[4])), bytes_of(words[5])
-        plain = self.resource(coap_reading.read(datagram)._replace(code=code, options=options, payload=payload))
-        own = "own" if len(self.delivered) % 2 else "shared"
-        words = self.life.happens(f"reply {at} {own} {secrets.token_hex(2)} {coap_reading.write(plain).hex()}")
+        words = self.respond(at, coap_reading.read(datagram)._replace(code=code, options=options, payload=payload))
         return Answer(bytes.fromhex(words[1]) if words[0] == "replied" else None, True)
+
+    def respond(self, at: int, request: Message) -> List[str]:
+        """The entry of the response to what an event delivered."""
+        own = "own" if len(self.delivered) % 2 else "shared"
+        return self.life.happens(f"reply {at} {own} {secrets.token_hex(2)} {coap_reading.write(self.resource(request)).hex()}")
 
 
 class Client:

@@ -4,8 +4,7 @@ the same programs with a forward proxy between them, and over UDP, a line that s
 
     python3 following.py PROGRAM SEED
 
-Judged is by oscore_reading.py, which shares nothing with the program: each text that is sealed opens as what was to be said, and no two have
-one nonce."""
+Judged is by judging.py: each text that is sealed opens as what was to be said, and no two have one nonce."""
 
 from __future__ import annotations
 
@@ -14,17 +13,16 @@ import random
 import subprocess
 import sys
 import threading
-from dataclasses import replace
-from typing import Dict, List, Optional, Set, Tuple
+from typing import Dict, List, Optional, Tuple
 
 import coap_reading
 import command
-import oscore_reading
 from asker import Asker
 from bench import CONTEXTS, GIVEN_UP_S, METHODS, WITHOUT_PAYLOAD, answer_code, mirrored
 from coap_reading import ACK, CON, Message, Options
 from command import Life, bytes_of, code_of, context_words, options_of
-from oscore_reading import HOP_LIMIT, OBSERVE, PROXY_SCHEME, URI_HOST, Context
+from judging import Found, Judge, wants
+from oscore_reading import HOP_LIMIT, OBSERVE, PROXY_SCHEME, URI_HOST
 
 LOST = 0.3
 NOTIFICATIONS, REQUESTS, LATER_NOTIFICATIONS = 50, 100, 5
@@ -35,24 +33,8 @@ TOKEN = b"\x2a"
 LINES, MOST_MEMORY_KB = 100_000, 20_000
 
 
-class Found(Exception):
-    """What must not be."""
-
-
-def wants(what: str, wanted: object, came: object) -> None:
-    if wanted != came:
-        raise Found(f"{what}: {came!r} in place of {wanted!r}")
-
-
 def words_of(role: str, at: int) -> List[str]:
     return ["--role", role, *context_words(CONTEXTS[at], role == "client")]
-
-
-def context_of(own: str, other: str) -> Context:
-    """As an end of the first context has it, which takes part in Observe."""
-    words = CONTEXTS[0]
-    derived = oscore_reading.derive(bytes_of(words.secret), bytes_of(words.salt), None, bytes_of(own), bytes_of(other))
-    return replace(derived, observe=True)
 
 
 class World:
@@ -61,10 +43,7 @@ class World:
     def __init__(self, program: str, seed: int):
         self.chance, self.moment, self.message_id, self.lost, self.again = random.Random(seed), 0, 0, 0, 0
         self.server, self.client = (Life(program, [*words_of(role, 0), "--allow", "observe"]) for role in ("server", "client"))
-        words = CONTEXTS[0]
-        self.of_server, self.of_client = context_of(words.server, words.client), context_of(words.client, words.server)
-        self.replies: Dict[bytes, bytes] = {}
-        self.numbers: Set[Tuple[str, int]] = set()
+        self.judge = Judge(CONTEXTS[0])
 
     def now(self) -> int:
         self.moment += 10
@@ -79,28 +58,21 @@ class World:
         self.lost += not arrives
         return arrives
 
-    def uses(self, end: str, number: int) -> None:
-        wants(f"whether the {end} used the number {number} before", False, (end, number) in self.numbers)
-        self.numbers.add((end, number))
-
     def sent(self, plain: Message) -> Tuple[int, bytes]:
         """The client seals a request."""
         entry, number, datagram = self.client.happens(f"request {self.now()} {coap_reading.write(plain).hex()}")
         wants("a request", "sent", entry)
-        opened = oscore_reading.open_request(self.of_server, bytes.fromhex(datagram))
+        opened = self.judge.request(bytes.fromhex(datagram))
         wants("what a request says", (plain.code, plain.options, plain.payload), (opened.code, opened.options, opened.payload))
-        self.uses("client", opened.number)
         return int(number), bytes.fromhex(datagram)
 
     def sealed(self, line: str, plain: Message, request: int, registers: bool) -> bytes:
         """The server seals a response, in which a notification has an empty Observe (RFC 8613, 4.1.3.5.2)."""
         entry, datagram = self.server.happens(f"{line} {coap_reading.write(plain).hex()}")
         wants("a response", "replied", entry)
-        opened = oscore_reading.open_response(self.of_client, request, bytes.fromhex(datagram), registers)
+        opened = self.judge.response(request, bytes.fromhex(datagram), registers)
         options = tuple((number, b"" if number == OBSERVE else value) for number, value in plain.options)
         wants("what a response says", (plain.code, options, plain.payload), (opened.code, opened.options, opened.payload))
-        if opened.number is not None:
-            self.uses("server", opened.number)
         return bytes.fromhex(datagram)
 
     def taken(self, datagram: bytes) -> List[str]:
@@ -230,7 +202,7 @@ def observes(program: str, seed: int) -> None:
     wants("a notification behind the cancellation", ["unknown-token"], world.heard(late))
     for end in (world.server, world.client):
         end.end()
-    print(f"two live programs, {len(world.numbers)} numbers: {world.lost} datagrams were lost, {world.again} came again")
+    print(f"two live programs, {len(world.judge.nonces)} nonces: {world.lost} datagrams were lost, {world.again} came again")
 
 
 class Proxy:

@@ -44,11 +44,15 @@ class Relay:
             if self.front in readable:
                 datagram, self.client = self.front.recvfrom(MOST_DATAGRAM)
                 self.of_client.append(datagram)
-                self.back.send(datagram)
+                self.forward(datagram)
             elif self.back in readable:
                 self.of_server.append(self.back.recv(MOST_DATAGRAM))
                 return self.of_server[-1]
         return None
+
+    def forward(self, datagram: bytes) -> None:
+        """To the server."""
+        self.back.send(datagram)
 
     def take(self) -> bytes:
         """The server's next datagram, which isn't handed on."""
