@@ -15,12 +15,14 @@ import coap_reading
 from asker import ECHO, EMPTY, UNAUTHORIZED, URI_PATH
 from blocks import GET, uint
 from coap_reading import ACK, CON, Message
-from command import Life, Server, bytes_of, options_of
+from command import Client, Life, Server, bytes_of, options_of
 from losing import WAITED_S
 from oscore_reading import OBSERVE, first
 from serving import CONTENT
 
-HASTY_S, MOST_WAIT_S = 0.1, 60
+HASTY_S, FIRST_S, MOST_WAIT_S = 0.1, 0.5, 110
+"""So long what is confirmable waits for its acknowledgment, a first request, and each at most. A first request may be challenged: libcoap's
+server gives another Echo value where it comes twice, and answers nothing to who brings back the one before."""
 PATH, NOT_FOUND = b"temperature", 0x84
 REGISTERS, CANCELS = b"", b"\x01"
 """The values of Observe in a request (RFC 7641, 2)."""
@@ -29,8 +31,8 @@ REGISTERS, CANCELS = b"", b"\x01"
 class Again:
     """A confirmable message, which is sent again, each time after twice the time."""
 
-    def __init__(self, udp: socket.socket, datagram: bytes, to: Optional[object] = None):
-        self.udp, self.datagram, self.to, self.wait_s, self.until = udp, datagram, to, HASTY_S, 0.0
+    def __init__(self, udp: socket.socket, datagram: bytes, to: Optional[object] = None, wait_s: float = HASTY_S):
+        self.udp, self.datagram, self.to, self.wait_s, self.until = udp, datagram, to, wait_s, 0.0
         self.send()
 
     def send(self) -> None:
@@ -48,6 +50,13 @@ class Again:
     def is_said_by(self, datagram: bytes) -> bool:
         """Whether an empty message is about this one: an ACK, or an RST."""
         return len(datagram) == 4 and datagram[2:] == self.datagram[2:4]
+
+
+def sealed(entry: List[str]) -> bytes:
+    """The response that an entry has."""
+    if entry[0] != "replied":
+        raise SystemExit(f"oscore run: {entry}")
+    return bytes.fromhex(entry[1])
 
 
 class Observed(NamedTuple):
@@ -125,15 +134,14 @@ class CommandServer(Server):
         with self.lock:
             self.temperature = temperature.encode()
             if self.observed:
-                _, datagram = self.notification(CON, self.next_id())
-                self.unacknowledged = Again(self.udp, bytes.fromhex(datagram), self.observed.to)
+                self.unacknowledged = Again(self.udp, sealed(self.notification(CON, self.next_id())), self.observed.to)
 
     def delete(self) -> None:
         """The last response, as a message of its own."""
         with self.lock:
             plain = coap_reading.write(self.plain(CON, 0, NOT_FOUND))
-            _, datagram = self.life.happens(f"reply {self.observed.event} own 0000 {plain.hex()}")
-            message = coap_reading.read(bytes.fromhex(datagram))._replace(kind=CON, message_id=self.next_id())
+            datagram = sealed(self.life.happens(f"reply {self.observed.event} own 0000 {plain.hex()}"))
+            message = coap_reading.read(datagram)._replace(kind=CON, message_id=self.next_id())
             self.unacknowledged = Again(self.udp, coap_reading.write(message), self.observed.to)
             self.observed = None
 
@@ -174,9 +182,9 @@ class CommandCaller:
             self.token = token if line == "register" else self.token
             observe = {"register": ((OBSERVE, REGISTERS),), "cancel": ((OBSERVE, CANCELS),)}.get(line, ())
             plain = Message(CON, GET, self.count, token, (*observe, (URI_PATH, PATH), *more), b"")
-            _, number, datagram = self.life.happens(f"request {self.life.now()} {coap_reading.write(plain).hex()}")
-            self.asked[int(number)] = line
-            self.unanswered[int(number)] = Again(self.udp, bytes.fromhex(datagram))
+            number, datagram = Client(self.life).seal(plain)
+            self.asked[number] = line
+            self.unanswered[number] = Again(self.udp, datagram, None, HASTY_S if self.taken else FIRST_S)
 
     def line(self) -> str:
         try:

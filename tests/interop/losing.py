@@ -10,7 +10,7 @@ import contextlib
 import random
 import threading
 import time
-from typing import Callable, Dict, List, Optional, Tuple
+from typing import Callable, Dict, List, Optional
 
 import coap_reading
 import outside
@@ -19,7 +19,7 @@ from coap_reading import ACK, NON
 from relay import Relay
 
 LOST, OF = 3, 10
-WAITED_S = 60
+WAITED_S = 150
 """So long something may take whose datagrams are lost again and again."""
 CLIENT, SERVER = "client", "server"
 
@@ -38,8 +38,8 @@ class Losing(Relay):
         self.chance = chance
         self.decks: Dict[str, List[bool]] = {CLIENT: [], SERVER: []}
         self.came, self.lost = {CLIENT: 0, SERVER: 0}, {CLIENT: 0, SERVER: 0}
-        self.order: List[Tuple[str, bytes]] = []
-        """What the client said, and what it was handed."""
+        self.arrived: List[bytes] = []
+        """What the client was handed."""
         self.is_over = threading.Event()
         self.thread = threading.Thread(target=self.run, daemon=True)
 
@@ -67,7 +67,6 @@ class Losing(Relay):
         return arrives
 
     def forward(self, datagram: bytes) -> None:
-        self.order.append((CLIENT, datagram))
         if self.arrives(CLIENT, datagram):
             super().forward(datagram)
 
@@ -75,7 +74,7 @@ class Losing(Relay):
         while not self.is_over.is_set():
             datagram = self.step(0.02)
             if datagram and self.arrives(SERVER, datagram):
-                self.order.append((SERVER, datagram))
+                self.arrived.append(datagram)
                 self.hand(datagram)
 
     def leads_to(self, port: int) -> None:
@@ -94,7 +93,7 @@ class Losing(Relay):
 
     def handed(self) -> List[bytes]:
         """The notifications that the client was handed, each once."""
-        return list(dict.fromkeys(datagram for end, datagram in list(self.order) if end == SERVER and outside.notifies(datagram)))
+        return list(dict.fromkeys(filter(outside.notifies, list(self.arrived))))
 
     def hands(self, count: int) -> bool:
         """Whether the client was handed so many, as soon as it was."""
@@ -109,17 +108,17 @@ class Losing(Relay):
         """Whether the client acknowledged so many, as soon as it did."""
         return soon(lambda: self.acknowledged() >= count)
 
-    def crosses(self) -> bool:
-        """Whether the client was handed a notification behind its cancellation."""
-        cancels = [at for at, (end, datagram) in enumerate(self.order) if end == CLIENT and outside.see(datagram).observe == 1]
-        return any(end == SERVER and outside.notifies(datagram) for end, datagram in self.order[cancels[0]:])
-
 
 class OfSensor(Losing):
+    """sensor.c sends the last response once, and then ends: a NON without Observe. So that is never lost. All notifications are while it is to
+    be quiet."""
+
+    is_quiet = False
+
     def is_lost(self, end: str, datagram: bytes) -> Optional[bool]:
-        """sensor.c sends the last response once, and then ends: a NON without Observe. So that is never lost."""
-        message = coap_reading.read(datagram)
-        return False if end == SERVER and message.kind == NON and not outside.notifies(datagram) else None
+        if end == CLIENT or outside.notifies(datagram):
+            return True if end == SERVER and self.is_quiet else None
+        return False if coap_reading.read(datagram).kind == NON else None
 
 
 class OfReader(Losing):

@@ -29,13 +29,13 @@ from command import Life, context_words
 from judging import Found, Overheard
 from libcoap import Libcoap
 from line_ends import CommandCaller, CommandServer
-from losing import LOST, OF, SERVER, WAITED_S, Losing, OfReader, OfSensor, soon
+from losing import LOST, OF, WAITED_S, Losing, OfReader, OfSensor, soon
 from observing import THE_SENSOR, temperature
 from oscore_reading import Refused
 
 NOTIFICATIONS, REQUESTS, LATER, FEW, AGAIN = 50, 100, 5, 3, 2
-SILENT_S = 1.0
-"""So long nothing may come where nothing is to come."""
+SILENT_S, QUIET_S = 1.0, 0.2
+"""So long nothing may come where nothing is to come, and so long a client has for what it was handed."""
 MOST_DATAGRAMS, PINGS_AT_ONCE = 3000, 20
 LIFE_MS = 600_000
 AIOCOAP = pathlib.Path(__file__).with_name("aiocoap_losses.py")
@@ -146,8 +146,10 @@ class Story:
                 least, most = came // OF * LOST, came // OF * LOST + min(LOST, came % OF)
                 lost = relay.lost[end]
                 self.wants(f"whether {least} to {most} datagrams of the {end}'s are lost, and not {lost}", True, least <= lost <= most)
-        came, lost = (sum(sum(count.values()) for count in counts) for counts in zip(*((one.came, one.lost) for one in self.relays)))
-        print(f"{self.what}: {lost} of {came} datagrams were lost, {len(judge.nonces)} nonces", flush=True)
+        lost, came = (sum(sum(count.values()) for count in counts) for counts in ([one.lost for one in self.relays], [one.came for one in self.relays]))
+        handed, sealed = (sum(map(len, notifications)) for notifications in
+                          ([one.handed() for one in self.relays], [one.notifications() for one in self.relays]))
+        print(f"{self.what}: {lost} of {came} datagrams were lost, {handed} of {sealed} notifications came, {len(judge.nonces)} nonces", flush=True)
 
 
 class CommandStory(Story):
@@ -173,15 +175,12 @@ class CommandStory(Story):
         server.delete()
         self.wants("the last response", "last 4.04", client.line())
         self.registers(client, server, 100, LATER)
-        client.say("cancel")
-        self.cancelled(client, server, relay, temperature(100 + LATER))
+        self.cancels(client, server, relay, temperature(100 + LATER))
         self.registers(client, server, 200, LATER)
 
-    def cancelled(self, client, server, relay: Losing, said: str) -> None:
+    def cancels(self, client, server, relay: Losing, said: str) -> None:
+        client.say("cancel")
         self.wants("the answer to a cancellation", f"cancelled 2.05 {said}", client.line())
-        self.is_silent(server, relay)
-
-    def is_silent(self, server, relay: Losing) -> None:
         before = len(relay.notifications())
         server.measure(temperature(150))
         self.stays_silent(relay, before)
@@ -195,15 +194,14 @@ class CommandServerStory(CommandStory):
             self.observes(client, server, relay)
         self.wants("what the command's server failed at", None, server.failure)
 
-    def cancelled(self, client, server, relay: Losing, said: str) -> None:
-        """aiocoap's application can cancel, but no request says so, and its client acknowledges on. libcoap's client doesn't show the answer
-        where it was handed a notification behind its request."""
+    def cancels(self, client, server, relay: Losing, said: str) -> None:
+        """Once nothing is on its way that could come behind it. aiocoap's application can cancel, but no request says so, and its client
+        acknowledges on."""
+        self.wants("whether the last notification is acknowledged", True, soon(lambda: server.unacknowledged is None))
         if self.ends.can_cancel:
-            self.wants("whether the server notifies nobody more", True, soon(server.is_alone))
-            if not relay.crosses():
-                self.wants("the answer to a cancellation", f"cancelled 2.05 {said}", client.line())
-            self.is_silent(server, relay)
+            super().cancels(client, server, relay, said)
             return
+        client.say("cancel")
         self.wants("what an application says that cancels", "cancelled", client.line())
         for at in range(FEW):
             acknowledged = relay.acknowledged()
@@ -266,17 +264,18 @@ class SensorStory(Story):
         self.wants("how the sensor ends", 0, sensor.poll())
         self.wants("the last response", "last 4.04", self.next_line(client))
 
-    def cancels(self, client: Caller, relay: Losing) -> None:
-        """As at the command."""
+    def cancels(self, client: Caller, relay: OfSensor) -> None:
+        """As at the command, where nothing comes behind libcoap's cancellation."""
         acknowledged = relay.acknowledged()
+        relay.is_quiet = self.ends.can_cancel
+        time.sleep(QUIET_S)
         client.say("cancel")
         if not self.ends.can_cancel:
             self.wants("what an application says that cancels", "cancelled", self.next_line(client))
             self.wants("whether notifications behind it are acknowledged", True, relay.acknowledges(acknowledged + FEW))
             return
-        self.wants("whether the sensor notifies nobody more", True, soon(lambda: "Done: cancelled at" in self.log.read_text()))
-        if not relay.crosses():
-            self.wants("the answer to a cancellation", "cancelled 2.05", self.next_line(client)[:14])
+        self.wants("the answer to a cancellation", "cancelled 2.05", self.next_line(client)[:14])
+        relay.is_quiet = False
         self.stays_silent(relay, len(relay.notifications()))
 
     def tell(self) -> None:
@@ -330,7 +329,7 @@ class ReaderStory(Story):
                 return
             relay = self.relays[-1]
             last = relay.handed()[-1]
-            self.wants("whether the last notification comes again", True, soon(lambda: relay.order.count((SERVER, last)) > AGAIN))
+            self.wants("whether the last notification comes again", True, soon(lambda: relay.arrived.count(last) > AGAIN))
             self.wants("how often it is acknowledged", 1, sum(outside.acknowledges(said, last) for said in relay.of_client))
             self.wants("whether the reader waits on", None, reader.poll())
 

@@ -105,10 +105,9 @@ class ProxyRows:
         """What comes to the server is what the client sealed. Outside nothing asks a proxy any more."""
         for what, said in (("payloads", lambda one: one.payload), ("OSCORE options", lambda one: first(one.options, OSCORE))):
             self.bench.check(f"{whose}: {what} before and behind the proxy", list(map(said, sealed)), list(map(said, came)))
-        for message in sealed:
-            self.bench.check(f"{whose}: what is outside before the proxy is asked", {URI_HOST, URI_PORT}, set(outside.see(coap_reading.write(message)).others))
-        for message in came:
-            self.bench.check(f"{whose}: what is outside behind the proxy", set(), set(outside.see(coap_reading.write(message)).others))
+        for where, messages, others in (("before the proxy is asked", sealed, {URI_HOST, URI_PORT}), ("behind the proxy", came, set())):
+            for message in messages:
+                self.bench.check(f"{whose}: what is outside {where}", others, set(outside.see(coap_reading.write(message)).others))
 
     def run(self) -> None:
         calls = str(self.bench.ours / "calls")
