@@ -1,5 +1,5 @@
 -- What a server delivers, exactly.
-use Rattle.std.proofs.Common.{◌≡◌, ℕ, ◌∙◌, sym, ap, subst, refl, arith, true, false, Option, Some, None, List, [], inl, inr}
+use Rattle.std.proofs.Common.{◌≡◌, ℕ, ◌∙◌, sym, ap, subst, refl, arith, false, Option, Some, None, List, [], inl, inr}
 use Rattle.std.specs.Prelude.{max, unwrap_or}
 use Rattle.osc_coap.specs.Inner.{InnerParts}
 use Rattle.osc_protect.specs.Laws.{OneRequest, OneRequestReading}

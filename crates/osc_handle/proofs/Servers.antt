@@ -33,7 +33,6 @@ use Rattle.osc_life.specs.declared.start.Start.{Start}
 use Rattle.osc_handle.proofs.Tables.{alone, life_there}
 use Rattle.osc_handle.proofs.Waits.{remembers_begun, remembers_notified, remembers_replied, remembers_took}
 use Rattle.osc_context_handle.specs.ContextBytes.{IsContext as IsContextBytes, server_in}
-use Rattle.osc_handle.specs.Held.{held}
 use Rattle.osc_handle.specs.Noting.{Notes}
 use Rattle.osc_handle.specs.ServerBytes.{AddsIn, DecidesIn, Remembers, RemembersAt, RemembersLife, NotifiesIn, RepliesIn, Serves}
 use Rattle.osc_handle.specs.SlotBytes.{IsSlotIn}

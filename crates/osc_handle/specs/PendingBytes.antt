@@ -2,7 +2,6 @@
 use Rattle.std.specs.Prelude.{◌≡◌, ℕ, ◌≤◌, ◌<◌, ◌==◌, ◌^◌, List, Option, Some, None, Result, Ok, Err, length, map, slice_get, take, if◌then◌else◌}
 use Rattle.osc_client.specs.Agrees.{TokensDiffer}
 use Rattle.osc_client.specs.ClientHistory.{Asked, Entry, NotSent, Sent}
-use Rattle.osc_laws.specs.ClientLaws.{sealed}
 use Rattle.osc_client.specs.declared.pending.Wait.{Wait}
 use Rattle.osc_client.specs.declared.pending.Wait.TheVariants.{Once, Observing}
 use Rattle.osc_handle.specs.declared.pending_handle.PendingHandle.{PendingHandle}

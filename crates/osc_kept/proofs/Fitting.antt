@@ -30,7 +30,7 @@ use Rattle.osc_life.specs.ServerHistory as server
 use Rattle.osc_kept.specs.Premises.{AtEach, Answers, BeginsAbove, EchoIsNew, StartsAboveDelivered, IsLawful, NobodyForges, NobodyForgesRequests, SealedByClient}
 use Rattle.osc_kept.specs.World.{World, Event, Begin, Then, ServerStarts, AtClient, AtServer, Has, client_history, sent, server_life}
 use Rattle.osc_kept.proofs.Above.{owns_below, sends_below}
-use Rattle.osc_kept.proofs.Deeds.{AllFit, Begins, CarriesLast, Challenges, Deed, Delivers, Fits, Holds, Renews, Replies, Spoils, carried, given, life_in, replied, sends}
+use Rattle.osc_kept.proofs.Deeds.{AllFit, Begins, CarriesLast, Challenges, Deed, Delivers, Fits, Holds, Renews, Replies, Spoils, carried, life_in, replied, sends}
 use Rattle.osc_kept.proofs.Digest.{client_deed, delivered_is, digest, sent_is, server_deed}
 use Rattle.osc_laws.proofs.Inside.{unnotified}
 use Rattle.osc_life.proofs.SealedReplies.{replied_features}

@@ -1,5 +1,5 @@
 -- What an event adds to what was sent and heard. w is the world before the event.
-use Rattle.std.proofs.Common.{◌≡◌, sym, subst, Option, Some, None, List, ◌⊎◌, inl, inr}
+use Rattle.std.proofs.Common.{sym, subst, Option, Some, None, List, ◌⊎◌, inl, inr}
 use Rattle.std.specs.Prelude.{IfSome}
 use Rattle.std.specs.List.{cons_option}
 use Rattle.std.specs.Option.{option_map}

@@ -1,6 +1,6 @@
 -- That a reply to a request that waits is the first to it, where each reply is due. t and u are tickets, of which context, life and number
 -- count alone.
-use Rattle.std.proofs.Common.{◌≡◌, ◌<◌, ◌≤◌, ◌^◌, ◌∙◌, sym, subst, refl, ℕ, Bool, true, false, Option, Some, None, List, [], ◌+◌, ap, arith, inl, inr, ◌⊎◌, ◌&&◌, ◌==◌, not, ◌||◌, if◌then◌else◌}
+use Rattle.std.proofs.Common.{◌≡◌, ◌<◌, ◌≤◌, ◌^◌, ◌∙◌, sym, subst, refl, ℕ, Bool, true, false, Option, Some, None, List, [], ◌+◌, ap, arith, inl, inr, ◌⊎◌, ◌&&◌, ◌==◌, not, ◌||◌}
 use Rattle.std.specs.Prelude.{nat_le}
 use Rattle.std.specs.List.{AllByRecursion}
 use Rattle.std.proofs.lemmas.Bool.{and_from, and_left, and_parts, both_ways, cond-false, cond-true, cond_both, eq-eqb, eqb-true, false_from_ne_true, leb-true}

@@ -1,6 +1,5 @@
 use Rattle.std.proofs.Common.{◌≡◌, ◌∙◌, ◌<◌, ◌≤◌, refl, arith}
 use Rattle.osc_context.specs.Views.{number_of}
-use Rattle.osc_life.specs.declared.start.Start.TheVariants as starts
 use Rattle.osc_kept_ends.specs.Owning.{own_in}
 use Rattle.osc_kept_ends.proofs.Drawing.{first_draw}
 use Rattle.osc_kept_ends.proofs.kept_server.load_start.Goals as goal
