@@ -1,5 +1,7 @@
 //! The steps of a server's row: its events, and the contexts that are added.
 
+ghost use Rattle.std.specs.Prelude.{◌≤◌};
+
 use crate::answer::Answer;
 use crate::fields::Fields;
 use crate::steps::{FILLED_WITH, Step};
@@ -10,7 +12,9 @@ use osc_window::WindowSize;
 
 /// Reads from this field on how a context begins, behind which nothing stands: `fresh NEXT SIZE`, `restarted NEXT SIZE`, `received NEXT SIZE
 /// HIGHEST` or `reserved NEXT SIZE HIGHEST AHEAD`.
-fn beginning(fields: &Fields<'_>, from: usize) -> Start {
+fn beginning(fields: &Fields<'_>, from: usize) -> Start
+    requires { from ≤ 2 }
+{
     let next = fields.sequence_number(from + 1);
     if fields.word(from) == "received" {
         fields.count(from + 4);
