@@ -549,7 +549,7 @@ OSCORE_MUST_USE static inline oscore_status oscore_open_response(const oscore_co
 
    A peer is in one call at a time. One that comes while another runs, from a thread or from what interrupted it, is OSCORE_BUSY: make it again
    later. A call that never returned, as behind a longjmp, leaves its peer busy: set it to zero, and begin it again. `oscore_peer_find`
-   and `oscore_peer_fits` only read, and don't see to this: no call of one of these peers may run meanwhile. */
+   `oscore_peer_fits_at` and `oscore_peer_fits` only read, and don't see to this: no call of one of these peers may run meanwhile. */
 
 /* Writes the name of a context, which its peers, their records and their tickets have. A store is opened by it (oscore_store.h), before a
    peer is begun. OSCORE_BAD_HANDLE leaves the name. */
@@ -648,10 +648,12 @@ OSCORE_MUST_USE static inline oscore_status oscore_peer_find(const oscore_peer *
     return oscore_peer_find_v5(peers, peer_count, datagram, datagram_len, index, detail);
 }
 
-/* Whether a peer of this context may be begun beside these peers: none of them has its Sender Key, since both would use the same nonces, and
-   none has both its Recipient ID and its ID Context, since `oscore_peer_find` could find but one of them. It passes over peers that were
-   never begun and whose bytes are 0. Of keys a branch depends on one thing alone: whether they are the same. */
-static inline bool oscore_peer_fits(const oscore_peer *peers, size_t peer_count, const oscore_context *context) {
+/* Whether the peer at `index` of these may be begun anew with this context, which takes the place of the one that it has, as when both ends
+   have made new keys: none of them, that one neither, has its Sender Key, since both would use the same nonces, and no other one has both
+   its Recipient ID and its ID Context, since `oscore_peer_find` could find but one of them. It passes over peers that were never begun and
+   whose bytes are 0. Of keys a branch depends on one thing alone: whether they are the same. No end remembers a context that it had before:
+   never bring one back. */
+static inline bool oscore_peer_fits_at(const oscore_peer *peers, size_t peer_count, size_t index, const oscore_context *context) {
     for (size_t i = 0; i < peer_count; i++) {
         if (peers[i].server.context.places == 0) continue;
         const oscore_context *other = &peers[i].server.context.context;
@@ -661,9 +663,15 @@ static inline bool oscore_peer_fits(const oscore_peer *peers, size_t peer_count,
             if (at < context->recipient_len) id |= other->recipient[at] ^ context->recipient[at];
         for (size_t at = 0; at < sizeof context->id_context; at++)
             if (at < context->id_context_len) id_context |= other->id_context[at] ^ context->id_context[at];
-        if (key == 0 || (id | id_context) == 0) return false;
+        if (key == 0 || (i != index && (id | id_context) == 0)) return false;
     }
     return true;
+}
+
+/* Whether a peer of this context may be begun beside these peers: none of them has its Sender Key, and none has both its Recipient ID and
+   its ID Context, as at `oscore_peer_fits_at`. */
+static inline bool oscore_peer_fits(const oscore_peer *peers, size_t peer_count, const oscore_context *context) {
+    return oscore_peer_fits_at(peers, peer_count, peer_count, context);
 }
 
 /* Seals the answer to the request of a ticket: with a Partial IV of its own where `own` says so, else under the request's nonce, which

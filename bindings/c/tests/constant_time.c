@@ -161,6 +161,8 @@ static void fits(const oscore_peer *other, const oscore_peer *own, const oscore_
     (void)reports();
     CHECK(oscore_peer_fits(other, 1, context) && reports() == 1);
     CHECK(!oscore_peer_fits(own, 1, context) && reports() == 1);
+    CHECK(oscore_peer_fits_at(other, 1, 0, context) && reports() == 1);
+    CHECK(!oscore_peer_fits_at(own, 1, 0, context) && reports() == 1);
 }
 
 int main(int count, char **words) {

@@ -133,6 +133,10 @@ static bool fits(const oscore_context *other) {
     return oscore_peer_fits(peers, 2, guarded_copy(BESIDE, other, sizeof *other));
 }
 
+static bool fits_at(size_t index, const oscore_context *other) {
+    return oscore_peer_fits_at(peers, 2, index, guarded_copy(BESIDE, other, sizeof *other));
+}
+
 /* A bit of these bytes, one after the other: each makes another key, or another name to be found by. */
 static void each_bit_tells(oscore_context *other, uint8_t *bytes, size_t len, bool fit) {
     for (size_t bit = 0; bit < 8 * len; bit++) {
@@ -164,6 +168,19 @@ static void tells_peers_apart(const oscore_context *of) {
     CHECK(fits(&other));
 }
 
+/* In the place of one of two peers: a context of another Sender Key, though it is found as the old one was, and none of a Sender Key that
+   one of the two has, nor one that is found as the other is. */
+static void tells_places_apart(const oscore_peer two[2]) {
+    for (size_t i = 0; i < 2; i++) {
+        oscore_context other = two[i].server.context.context;
+        CHECK(!fits_at(i, &other) && !fits_at(1 - i, &other));
+        other.sender_key[i * 15] ^= 1;
+        CHECK(fits_at(i, &other) && !fits_at(1 - i, &other) && !fits(&other));
+        memcpy(other.sender_key, two[1 - i].server.context.context.sender_key, sizeof other.sender_key);
+        CHECK(!fits_at(i, &other) && !fits_at(1 - i, &other));
+    }
+}
+
 static void tells_apart(void) {
     static const uint8_t ids[7] = {2, 3, 4, 5, 6, 7, 8}, id_context[32] = {9};
     oscore_peer two[2];
@@ -175,6 +192,7 @@ static void tells_apart(void) {
     two[1] = *peer;
     peers = guarded_copy(PEERS, two, sizeof two);
     for (int i = 0; i < 2; i++) tells_peers_apart(&two[i].server.context.context);
+    tells_places_apart(two);
     CHECK(oscore_peer_fits(NULL, 0, context) && !oscore_peer_fits(peers, 2, context));
     peers = guarded_copy(PEERS, two, sizeof two[0]);
     CHECK(oscore_peer_fits(peers, 1, context));

@@ -43,6 +43,10 @@ impl<const N: usize> ClientEnd for Client<N> {
 
     fn other(&mut self, step: &Step<'_>) -> Made<&'static str> {
         match step.verb {
+            "apart" => {
+                self.set_apart(step.registrations());
+                Ok("apart")
+            }
             "skip" => {
                 step.fields.count(1);
                 let skipped = self.skip(step.fields.number(0));
@@ -90,6 +94,10 @@ impl ClientEnd for KeptClient<Memory<'_>, 2> {
 
     fn other(&mut self, step: &Step<'_>) -> Made<&'static str> {
         match step.verb {
+            "apart" => {
+                self.set_apart(step.registrations());
+                Ok("apart")
+            }
             "restart" => restarted(KeptClient::restart(self)),
             "replace" => {
                 step.fields.count(2);

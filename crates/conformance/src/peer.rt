@@ -166,6 +166,16 @@ impl ClientEnd for Asking<'_> {
     fn forget(&mut self, token: &[u8]) -> Made<bool> {
         Ok(KeptPeer::forget(&mut self.peer, token))
     }
+
+    fn other(&mut self, step: &Step<'_>) -> Made<&'static str> {
+        match step.verb {
+            "apart" => {
+                KeptPeer::set_apart(&mut self.peer, step.registrations());
+                Ok("apart")
+            }
+            _ => Err(Refusal::Bad),
+        }
+    }
 }
 
 /// Makes an event of the server's role with a memory of the requests that it answered, or with a wish for fresh requests. Returns the place
@@ -207,7 +217,7 @@ fn make(asking: &mut Asking<'_>, steps: &[Step<'_>], way: Way, answer: &mut Answ
             answer.is_whole = tickets.push(ticket).is_ok() && answer.is_whole;
         } else {
             match step.verb {
-                "request" | "hear" | "forget" => {
+                "request" | "hear" | "forget" | "apart" => {
                     client_calls::make_step(asking, step, way, answer, &mut left);
                 }
                 "listen" => freshening::listen(&mut asking.peer, &mut asking.heard, step, answer),

@@ -60,7 +60,7 @@ impl Step<'_> {
     pub(crate) fn is_event(&self) -> bool {
         !matches!(
             self.verb,
-            "add" | "distinct" | "advance" | "is-open" | "next" | "replace" | "skip"
+            "add" | "advance" | "apart" | "distinct" | "is-open" | "next" | "replace" | "skip"
         ) && !self.is_counted()
     }
 
@@ -72,6 +72,15 @@ impl Step<'_> {
     /// Returns whether the step is `restart` without a number: the end goes on at the number that is kept.
     pub(crate) fn restarts_at_kept(&self) -> bool {
         self.verb == "restart" && self.fields.word(0).is_empty()
+    }
+
+    /// Reads `apart COUNT`: how many places registrations have of their own, or `none`.
+    pub(crate) fn registrations(&self) -> Option<usize> {
+        self.fields.count(1);
+        match self.fields.word(0) {
+            "none" => None,
+            _ => Some(self.fields.index(0)),
+        }
     }
 
     /// Makes `saved NUMBER` by a call that returns whether that was the number to save.

@@ -9,14 +9,15 @@ use Rattle.std.proofs.lemmas.List.{get_or-map, get_or_default, length-map, lengt
 use Rattle.std.proofs.lemmas.Option.{get_or_from_slice_get, slice_get_within}
 use Rattle.std.proofs.lemmas.Slice.Eq.{bytes_eq-Decides}
 use Rattle.std.proofs.lemmas.List.Elements.{All-contains, All-contains_itself, All-filter}
+use Rattle.std.proofs.lemmas.List.Filters.{length-filter_more}
 use Rattle.std.proofs.lemmas.List.Kept.{AllPairs-filter}
 use Rattle.std.proofs.lemmas.List.Quantifiers.{all_pairs_remove}
 use Rattle.osc_client.specs.declared.pending.Pending.{Pending}
 use Rattle.osc_client.specs.declared.pending.Wait.{Wait}
 use Rattle.osc_client.specs.declared.pending.Wait.TheVariants.{Once, Observing}
 use Rattle.osc_client.specs.Agrees.{ClientParts, PartsAgree, TokensDiffer}
-use Rattle.osc_client.specs.ClientAnswer.{IsAmong}
-use Rattle.osc_client.specs.ClientHistory.{Advance, Advanced, Asked, Entry, Event, History, Then, after_place, after_response, alive, asked, clock, first_place, is_alive, life_ms, next, pending, pending_at, without}
+use Rattle.osc_client.specs.ClientAnswer.{IsAmong, is_of_kind, of_kind}
+use Rattle.osc_client.specs.ClientHistory.{Advance, Advanced, Asked, Entry, Event, History, Then, after_place, after_response, alive, apart, asked, clock, first_place, is_alive, life_ms, next, pending, pending_at, without}
 use Rattle.osc_client.specs.Views.{asked_of}
 
 -- the requests, after a response at this place to those of this token
@@ -247,6 +248,17 @@ there_is [] i less = absurd (omega (arith, less))
 there_is (x ∷ xs) zero less = (x, refl)
 there_is (x ∷ xs) (suc i) less = there_is xs i (omega (arith, less))
 
+-- one request more is counted, if it is of this kind
+pub counted_more : (registering : Bool) (xs : List Asked) (i count : ℕ) (wait : Wait) (is : Bool) → i < length xs → ((r : Asked) → slice_get xs i ≡ Some r → wait ≡ r.wait)
+    → is ≡ is_of_kind registering wait → count ≡ length (of_kind registering (take i xs)) → length (of_kind registering (take (i + 1) xs)) ≡ count + cond is 1 0
+counted_more registering xs i count wait is less waits kind counted =
+    let (r, there) = there_is xs i less in
+    length-filter_more (λ (q : Asked). is_of_kind registering q.wait) xs i r less
+    ∙ ap (λ (q : Asked). length (of_kind registering (take i xs)) + cond (is_of_kind registering q.wait) 1 0) (get_or_from_slice_get xs i r r there)
+    ∙ ap (λ w. length (of_kind registering (take i xs)) + cond (is_of_kind registering w) 1 0) (sym (waits r there))
+    ∙ ap (λ b. length (of_kind registering (take i xs)) + cond b 1 0) (sym kind)
+    ∙ ap (λ n. n + cond is 1 0) (sym counted)
+
 -- then no two have one token
 pub differ_at : (xs ys : List Asked) (i : ℕ) (wait : Wait) → i < length xs → ((r : Asked) → slice_get xs i ≡ Some r → ys ≡ slice_set xs i (record r { wait = wait }))
     → TokensDiffer xs → TokensDiffer ys
@@ -277,15 +289,16 @@ pub ended : (h : History) (moment : ℕ) (token : List ℕ) → without token (p
 ended h moment token = filter_swap (λ r. not (bytes_eq r.token token)) (is_alive moment (life_ms h)) (asked h)
 
 -- the clock moves, and those whose time has passed are dropped
-pub advanced : (c new : ClientParts) (h : History) (now : ℕ) → PartsAgree c h → new.context ≡ c.context → new.life_ms ≡ c.life_ms → new.next ≡ c.next → new.clock ≡ max c.clock now
+pub advanced : (c new : ClientParts) (h : History) (now : ℕ) → PartsAgree c h → new.context ≡ c.context → new.life_ms ≡ c.life_ms → new.next ≡ c.next → new.apart ≡ c.apart → new.clock ≡ max c.clock now
     → new.pending ≡ alive new.clock c.life_ms c.pending → PartsAgree new (Then h (Advance now) Advanced)
-advanced c new h now a same_context same_life same_next clock_is table =
+advanced c new h now a same_context same_life same_next same_apart clock_is table =
     let moment : new.clock ≡ max (clock h) now = clock_is ∙ ap (λ x. max x now) a.clock_is in
     record {
       context_is = same_context ∙ a.context_is;
       life_is = same_life ∙ a.life_is;
       clock_is = moment;
       next_is = same_next ∙ a.next_is;
+      apart_is = same_apart ∙ a.apart_is;
       table =
           table ∙ ap (alive new.clock c.life_ms) a.table ∙ ap (λ x. alive x c.life_ms (pending h)) moment ∙ ap (λ x. alive (max (clock h) now) x (pending h)) a.life_is
           ∙ alive_again (clock h) (max (clock h) now) (life_ms h) (asked h) (omega arith);
@@ -295,14 +308,15 @@ advanced c new h now a same_context same_life same_next clock_is table =
 -- an event at a moment, after which no more is asked and nothing more is waited for
 pub moved : (c : ClientParts) (h : History) (now : ℕ) (event : Event) (entry : Entry)
     → clock (Then h event entry) ≡ max (clock h) now → next (Then h event entry) ≡ next h → asked (Then h event entry) ≡ asked h
-    → PartsAgree c (Then h (Advance now) Advanced) → PartsAgree c (Then h event entry)
-moved c h now event entry same_clock same_next same_asked a =
+    → apart (Then h event entry) ≡ apart h → PartsAgree c (Then h (Advance now) Advanced) → PartsAgree c (Then h event entry)
+moved c h now event entry same_clock same_next same_asked same_apart a =
     let same : pending (Then h event entry) ≡ pending_at h (max (clock h) now) = λ i. alive (same_clock i) (life_ms h) (same_asked i) in
     record {
       context_is = a.context_is;
       life_is = a.life_is;
       clock_is = a.clock_is ∙ sym same_clock;
       next_is = a.next_is ∙ sym same_next;
+      apart_is = a.apart_is ∙ sym same_apart;
       table = a.table ∙ sym same;
       differ = subst TokensDiffer (sym same) a.differ;
     }

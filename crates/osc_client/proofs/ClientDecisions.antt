@@ -143,7 +143,7 @@ overtaken c h now d new x f was y wait head shows can accepts over behind =
       answer = Old;
       row = (r, was.answers, inr (first_again s r d own m p (may_await s r d own m head shows p was.awaits) (ap (λ w. continues w m) was.wait_is ∙ more) (omega (arith, behind, place, from))));
       decides = tt;
-      agrees = moved c h now _ _ refl refl refl was.agrees;
+      agrees = moved c h now _ _ refl refl refl refl was.agrees;
     }
 
 module _ (c after : ClientParts) (h : History) (now : ℕ) (d new : List ℕ) (x : DecryptedResponse) (f : Found) (was : IsDecryptedFor h now d x f new c) where
@@ -168,7 +168,7 @@ module _ (c after : ClientParts) (h : History) (now : ℕ) (d new : List ℕ) (x
           (opens (context h) (observes was.to.wait) was.to.number d was.decrypts),
     )
 
-    module _ (same_context : after.context ≡ c.context) (same_life : after.life_ms ≡ c.life_ms) (same_clock : after.clock ≡ c.clock) (same_next : after.next ≡ c.next) where
+    module _ (same_context : after.context ≡ c.context) (same_life : after.life_ms ≡ c.life_ms) (same_clock : after.clock ≡ c.clock) (same_next : after.next ≡ c.next) (same_apart : after.apart ≡ c.apart) where
       -- a delivery ends the request that it answers
       ends : DatagramIsOneMessage → after.pending ≡ remove c.pending f.place
           → PartsAgree after (Then h (Datagram now d) (Took (Deliver seen (number_of f.number))))
@@ -182,6 +182,7 @@ module _ (c after : ClientParts) (h : History) (now : ℕ) (d new : List ℕ) (x
             life_is = same_life ∙ a.life_is;
             clock_is = same_clock ∙ a.clock_is;
             next_is = same_next ∙ a.next_is;
+            apart_is = same_apart ∙ a.apart_is;
             table = items ∙ table ∙ ap (without r.token) a.table ∙ left;
             differ = subst TokensDiffer left (differ_filter (λ q. not (bytes_eq q.token r.token)) (pending_at h moment) a.differ);
           }
@@ -198,6 +199,7 @@ module _ (c after : ClientParts) (h : History) (now : ℕ) (d new : List ℕ) (x
             life_is = same_life ∙ a.life_is;
             clock_is = same_clock ∙ a.clock_is;
             next_is = same_next ∙ a.next_is;
+            apart_is = same_apart ∙ a.apart_is;
             table = items ∙ ap (heard r.token (place_of own)) a.table ∙ left;
             differ = subst TokensDiffer left (differ_heard r.token (place_of own) (pending_at h moment) a.differ);
           }
@@ -205,10 +207,10 @@ module _ (c after : ClientParts) (h : History) (now : ℕ) (d new : List ℕ) (x
   -- what was decrypted and read, and ends the wait, is delivered
   pub delivered : (y : ReadResponse) → DatagramIsOneMessage → OneAwaited → OneResponseHead → AwaitedShowHeads → CanLendResponse new x y → AcceptsResponseAfter new x
       → OfWhatWasRead new y (λ own m. None ≡ wait_after f.wait own m)
-      → after.context ≡ c.context → after.life_ms ≡ c.life_ms → after.clock ≡ c.clock → after.next ≡ c.next
+      → after.context ≡ c.context → after.life_ms ≡ c.life_ms → after.clock ≡ c.clock → after.next ≡ c.next → after.apart ≡ c.apart
       → after.pending ≡ remove c.pending f.place
       → DecidesAmong h now d (decisions.Deliver y f.number) new after
-  delivered y one laws head shows can accepts over same_context same_life same_clock same_next items =
+  delivered y one laws head shows can accepts over same_context same_life same_clock same_next same_apart items =
       let s = context h in
       let r = was.to in
       let (own, m, p) = accepts s (observes r.wait) r.number d was.decrypts in
@@ -227,16 +229,16 @@ module _ (c after : ClientParts) (h : History) (now : ℕ) (d new : List ℕ) (x
           ),
         );
         decides = (reads own m p y one laws can, refl);
-        agrees = ends own m p same_context same_life same_clock same_next one items;
+        agrees = ends own m p same_context same_life same_clock same_next same_apart one items;
       }
 
   -- what was decrypted and read, and continues the wait, is notified
   pub notified : (y : ReadResponse) (wait : Wait) → DatagramIsOneMessage → OneAwaited → OneResponseHead → AwaitedShowHeads → CanLendResponse new x y → AcceptsResponseAfter new x
       → first_place f.wait < first_place wait → OfWhatWasRead new y (λ own m. Some wait ≡ wait_after f.wait own m)
-      → after.context ≡ c.context → after.life_ms ≡ c.life_ms → after.clock ≡ c.clock → after.next ≡ c.next
+      → after.context ≡ c.context → after.life_ms ≡ c.life_ms → after.clock ≡ c.clock → after.next ≡ c.next → after.apart ≡ c.apart
       → ((place : ℕ) → wait ≡ after_place place was.to.wait → after.pending ≡ heard was.to.token place c.pending)
       → DecidesAmong h now d (decisions.Notified y f.number) new after
-  notified y wait one laws head shows can accepts ahead over same_context same_life same_clock same_next noted =
+  notified y wait one laws head shows can accepts ahead over same_context same_life same_clock same_next same_apart noted =
       let s = context h in
       let r = was.to in
       let (own, m, p) = accepts s (observes r.wait) r.number d was.decrypts in
@@ -257,7 +259,7 @@ module _ (c after : ClientParts) (h : History) (now : ℕ) (d new : List ℕ) (x
           ),
         );
         decides = (reads own m p y one laws can, refl);
-        agrees = goes_on own m p same_context same_life same_clock same_next one (noted (place_of own) (wait_is ∙ ap (after_place (place_of own)) (sym was.wait_is)));
+        agrees = goes_on own m p same_context same_life same_clock same_next same_apart one (noted (place_of own) (wait_is ∙ ap (after_place (place_of own)) (sym was.wait_is)));
       }
 
 -- what decryption leaves; old is the client before those were dropped whose time has passed

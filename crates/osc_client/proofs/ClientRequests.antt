@@ -106,10 +106,10 @@ sealed_now n c h now number len p new old a can is room sealed =
 -- the table holds it
 pub agrees_sent : (n : ℕ) (c new : ClientParts) (h : History) (now room : ℕ) (p : Parts) (bytes : List ℕ) (rest : List Asked) (r : Asked)
     → PartsAgree c (Then h (Advance now) Advanced) → CanAsk n (Then h (Advance now) Advanced) (max (clock h) now) p
-    → new.context ≡ c.context → new.life_ms ≡ c.life_ms → new.clock ≡ c.clock → new.next ≡ c.next + 1 → rest ≡ beside c.context.features p c.pending → new.pending ≡ rest ++ r ∷ []
+    → new.context ≡ c.context → new.life_ms ≡ c.life_ms → new.clock ≡ c.clock → new.next ≡ c.next + 1 → new.apart ≡ c.apart → rest ≡ beside c.context.features p c.pending → new.pending ≡ rest ++ r ∷ []
     → r.token ≡ p.token → r.number ≡ next h → r.moment ≡ c.clock → r.wait ≡ wait_of c.context.features p
     → PartsAgree new (Then h (Request now p room) (Sent bytes))
-agrees_sent n c new h now room p bytes rest r a can same_context same_life same_clock counted left more token number moment wait =
+agrees_sent n c new h now room p bytes rest r a can same_context same_life same_clock counted same_apart left more token number moment wait =
     let asked_now : Asked = record { token = p.token; number = next h; moment = max (clock h) now; wait = wait_of (context h).features p } in
     let is : r ≡ asked_now = λ i. record { token = token i; number = number i; moment = (moment ∙ a.clock_is) i; wait = (wait ∙ ap (λ (s : SecurityContext). wait_of s.features p) a.context_is) i } in
     let x = (context h).features in
@@ -120,6 +120,7 @@ agrees_sent n c new h now room p bytes rest r a can same_context same_life same_
       life_is = same_life ∙ a.life_is;
       clock_is = same_clock ∙ a.clock_is;
       next_is = counted ∙ ap (λ k. k + 1) a.next_is;
+      apart_is = same_apart ∙ a.apart_is;
       table = more ∙ ap (λ xs. xs ++ r ∷ []) stay ∙ ap (λ q. beside x p (pending_at h (max (clock h) now)) ++ q ∷ []) is ∙ sym grows;
       differ = subst TokensDiffer (sym grows) (differ_beside_more x p (pending_at h (max (clock h) now)) asked_now a.differ can.0.1);
     }

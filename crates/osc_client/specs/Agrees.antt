@@ -4,6 +4,7 @@ use Rattle.osc_context.specs.SecurityContext.{SecurityContext}
 use Rattle.osc_context.specs.Views.{as_client, number_of}
 use Rattle.osc_context.specs.declared.partial_iv.Piv.{Piv}
 use Rattle.osc_protect.specs.Views.{context_of}
+use Rattle.osc_client.specs.declared.apart.Apart.{Apart}
 use Rattle.osc_client.specs.declared.client.Client.{Client}
 use Rattle.osc_client.specs.declared.client_state.ClientState.{ClientState}
 use Rattle.osc_client.specs.ClientHistory as client
@@ -15,11 +16,12 @@ pub record ClientParts : Type 0 where
   pub life_ms : ℕ
   pub clock : ℕ
   pub next : ℕ
+  pub apart : Option Apart
   pub pending : List client.Asked
 
 -- what a client is made of whose pending requests are these, wherever they lie (how the code is seen)
 abbrev pub parts_over : ClientState → List client.Asked → ClientParts
-parts_over c requests = record { context = as_client (context_of c.context); life_ms = c.life_ms; clock = c.clock; next = c.next; pending = requests }
+parts_over c requests = record { context = as_client (context_of c.context); life_ms = c.life_ms; clock = c.clock; next = c.next; apart = c.apart; pending = requests }
 
 -- what this client is made of (how the code is seen)
 abbrev pub client_parts : {N : ℕ} → Client N → ClientParts
@@ -44,6 +46,7 @@ pub record PartsAgree (c : ClientParts) (h : client.History) : Type 0 where
   pub life_is : c.life_ms ≡ client.life_ms h
   pub clock_is : c.clock ≡ client.clock h
   pub next_is : c.next ≡ client.next h
+  pub apart_is : c.apart ≡ client.apart h
   pub table : c.pending ≡ client.pending h
   pub differ : TokensDiffer (client.pending h)
 

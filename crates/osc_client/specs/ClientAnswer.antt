@@ -2,7 +2,7 @@
 -- are checked; the condition of each row includes that no earlier row's condition holds. h is a history, s its context, d a datagram, r a
 -- pending request, n the number of pending requests that there is room for, clock the clock after the event's own moment, m a message, own
 -- a response's own Partial IV or none.
-use Rattle.std.specs.Prelude.{◌≡◌, ◌⊎◌, ℕ, ◌+◌, ◌<◌, ◌≤◌, ◌^◌, ◌↔◌, ◌&&◌, List, Contains, length, max, Bool, true, false, Option, Some, None}
+use Rattle.std.specs.Prelude.{◌≡◌, ◌⊎◌, ℕ, ◌+◌, ◌<◌, ◌≤◌, ◌^◌, ◌↔◌, ◌&&◌, List, Contains, filter, length, max, not, Bool, true, false, Option, Some, None}
 use Rattle.osc_coap.specs.Code.{is_response}
 use Rattle.osc_coap.specs.Datagram.{Parts, IsDatagram}
 use Rattle.osc_coap.specs.Fault.{HasFault}
@@ -15,11 +15,12 @@ use Rattle.osc_protect.specs.Sealed.{SealsRequest}
 use Rattle.osc_protect.specs.SealRefusals.{IsPlainRequest, RefusesPlainRequest, RefusesToSeal}
 use Rattle.osc_protect.specs.declared.head_error.HeadError.TheVariants as heads
 use Rattle.osc_protect.specs.declared.protect_error.ProtectError.TheVariants as seals
+use Rattle.osc_client.specs.declared.apart.Apart.{Apart}
 use Rattle.osc_client.specs.declared.client_outcome.RequestError.TheVariants.{NotThatKind, Unsupported, TokenInUse, PendingFull, SequenceExhausted, TooLong, NoRoom}
 use Rattle.osc_client.specs.declared.pending.Wait.{Wait}
-use Rattle.osc_observe.specs.Observing.{is_notification, place_of}
+use Rattle.osc_observe.specs.Observing.{is_notification, place_of, registers}
 use Rattle.osc_observe.specs.Received.{Receives}
-use Rattle.osc_client.specs.ClientHistory.{History, Event, Entry, Answer, Asked, Request, Datagram, Forget, Restart, Skip, Advance, Malformed, NotResponse, UnknownToken, Unprotected, Undecodable, BadTag, BadInner, Old, Notified, Deliver, Sent, NotSent, Took, Forgot, Restarted, Skipped, NotSkipped, Advanced, beside, context, next, clock, first_place, observes, pending, pending_at}
+use Rattle.osc_client.specs.ClientHistory.{History, Event, Entry, Answer, Asked, Request, Datagram, Forget, Restart, Skip, SetApart, Advance, Malformed, NotResponse, UnknownToken, Unprotected, Undecodable, BadTag, BadInner, Old, Notified, Deliver, Sent, NotSent, Took, Forgot, Restarted, Skipped, NotSkipped, IsSetApart, Advanced, apart, beside, context, next, clock, first_place, observes, pending, pending_at}
 
 -- a request with this token is among these (RFC 7252, 5.3.2)
 abbrev pub IsAmong : List ℕ → List Asked → Type 0
@@ -104,17 +105,51 @@ staying h clock p = beside (context h).features p (pending_at h clock)
 abbrev pub IsNewRequest : History → ℕ → Parts → Type 0
 IsNewRequest h clock p = IsPlainRequest (context h).features p × (IsAmong p.token (staying h clock p) → ⊥)
 
--- such a request, with room for it among n pending ones, and a number left for it (RFC 8613, 7.2.1; own rule: the room)
+-- the message registers an observation (RFC 7641, 2; RFC 8613, 4.1.3.5.1)
+abbrev pub is_registration : History → Parts → Bool
+is_registration h p = registers (context h).features p.code p.options
+
+-- the request waits for notifications, or the other way round (RFC 8613, 4.1.3.5.2)
+abbrev pub is_of_kind : Bool → Wait → Bool
+is_of_kind true wait = observes wait
+is_of_kind false wait = not (observes wait)
+
+-- the registrations among these requests, or the others (RFC 8613, 4.1.3.5.2)
+abbrev pub of_kind : Bool → List Asked → List Asked
+of_kind registering requests = filter (λ r. is_of_kind registering r.wait) requests
+
+-- how many places there are for registrations, or for the others (own rule)
+abbrev pub places_for : Bool → Apart → ℕ
+places_for true a = a.registrations
+places_for false a = a.others
+
+-- registrations have places of their own, and these requests take all places for registrations, or all for the others (own rule)
+abbrev pub AreCrowded : Option Apart → Bool → List Asked → Type 0
+AreCrowded apart registering requests = (a : Apart) × (apart ≡ Some a) × (places_for registering a ≤ length (of_kind registering requests))
+
+-- all places of this message's kind are taken, and no request gives way to it (own rule)
+abbrev pub IsCrowded : History → ℕ → Parts → Type 0
+IsCrowded h clock p = (staying h clock p ≡ pending_at h clock) × AreCrowded (apart h) (is_registration h p) (pending_at h clock)
+
+-- there is no place for this message beside n pending requests (own rule)
+abbrev pub IsFull : ℕ → History → ℕ → Parts → Type 0
+IsFull n h clock p = (n ≤ length (staying h clock p)) ⊎ IsCrowded h clock p
+
+-- there is a place for this message among n (own rule)
+abbrev pub HasPlace : ℕ → History → ℕ → Parts → Type 0
+HasPlace n h clock p = (length (staying h clock p) < n) × (IsCrowded h clock p → ⊥)
+
+-- such a request, with a place for it among n, and a number left for it (RFC 8613, 7.2.1; own rule: the place)
 abbrev pub CanAsk : ℕ → History → ℕ → Parts → Type 0
-CanAsk n h clock p = IsNewRequest h clock p × (length (staying h clock p) < n) × (next h < 2 ^ 40)
+CanAsk n h clock p = IsNewRequest h clock p × HasPlace n h clock p × (next h < 2 ^ 40)
 
 -- the answer to Request, row by row (RFC 8613, 8.1; own rule: the order)
 abbrev pub RequestAnswer : ℕ → History → ℕ → Parts → ℕ → Entry → Type 0
 RequestAnswer n h clock p room (NotSent NotThatKind) = RefusesPlainRequest (context h).features p seals.NotThatKind
 RequestAnswer n h clock p room (NotSent (Unsupported k)) = RefusesPlainRequest (context h).features p (seals.Unsupported k)
 RequestAnswer n h clock p room (NotSent TokenInUse) = IsPlainRequest (context h).features p × IsAmong p.token (staying h clock p)
-RequestAnswer n h clock p room (NotSent PendingFull) = IsNewRequest h clock p × (n ≤ length (staying h clock p))
-RequestAnswer n h clock p room (NotSent SequenceExhausted) = IsNewRequest h clock p × (length (staying h clock p) < n) × (2 ^ 40 ≤ next h)
+RequestAnswer n h clock p room (NotSent PendingFull) = IsNewRequest h clock p × IsFull n h clock p
+RequestAnswer n h clock p room (NotSent SequenceExhausted) = IsNewRequest h clock p × HasPlace n h clock p × (2 ^ 40 ≤ next h)
 RequestAnswer n h clock p room (NotSent TooLong) = CanAsk n h clock p × RefusesToSeal (requests (context h)) (next h) p room seals.TooLong
 RequestAnswer n h clock p room (NotSent NoRoom) = CanAsk n h clock p × RefusesToSeal (requests (context h)) (next h) p room seals.NoRoom
 RequestAnswer n h clock p room (Sent bytes) = CanAsk n h clock p × SealsRequest (context h) (next h) p bytes × (length bytes ≤ room)
@@ -133,6 +168,7 @@ ClientAnswer n h (Datagram now d) (Took answer) = ResponseAnswer h (max (clock h
 ClientAnswer n h (Forget token) (Forgot was_pending) = (was_pending ≡ true) ↔ IsAmong token (pending h)
 ClientAnswer n h (Restart first) Restarted = Unit {0}
 ClientAnswer n h (Skip count) entry = SkipAnswer h count entry
+ClientAnswer n h (SetApart places) IsSetApart = Unit {0}
 ClientAnswer n h (Advance now) Advanced = Unit {0}
 ClientAnswer n h event entry = ⊥
 

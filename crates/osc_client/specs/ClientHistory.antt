@@ -1,10 +1,11 @@
 -- To be believed: the history of a client: what happened to it, each event with its entry. h is a history, d a datagram. Moments are in
 -- milliseconds.
-use Rattle.std.specs.Prelude.{◌≡◌, ℕ, ◌+◌, ◌-◌, ◌||◌, ◌&&◌, List, [], ◌∷◌, ◌++◌, Bool, true, false, bytes_eq, filter, map, max, nat_le, nat_lt, not, if◌then◌else◌}
+use Rattle.std.specs.Prelude.{◌≡◌, ℕ, ◌+◌, ◌-◌, ◌||◌, ◌&&◌, List, [], ◌∷◌, ◌++◌, Bool, true, false, Option, None, bytes_eq, filter, map, max, nat_le, nat_lt, not, if◌then◌else◌}
 use Rattle.osc_coap.specs.declared.format_error.Fault.{Fault}
 use Rattle.osc_coap.specs.Datagram.{Parts}
 use Rattle.osc_context.specs.SecurityContext.{SecurityContext}
 use Rattle.osc_context.specs.declared.features.Features.{Features}
+use Rattle.osc_client.specs.declared.apart.Apart.{Apart}
 use Rattle.osc_client.specs.declared.client_outcome.RequestError.{RequestError}
 use Rattle.osc_client.specs.declared.pending.Wait.{Wait}
 use Rattle.osc_client.specs.declared.pending.Wait.TheVariants.{Once, Observing}
@@ -38,13 +39,14 @@ after_place place Once = Once
 after_place place (Observing from) = Observing (place + 1)
 
 -- what happens to a client; room is the length of the buffer for a request, Skip passes over so many Sender Sequence Numbers, since another end of the same
--- Sender Key has them, Advance only moves the clock (own rule)
+-- Sender Key has them, SetApart says whether registrations have places of their own from then on, Advance only moves the clock (own rule)
 pub data Event : Type 0 where
   Request : (now : ℕ) (plain : Parts) (room : ℕ) → Event
   Datagram : (now : ℕ) (bytes : List ℕ) → Event
   Forget : (token : List ℕ) → Event
   Restart : (next : ℕ) → Event
   Skip : (count : ℕ) → Event
+  SetApart : (places : Option Apart) → Event
   Advance : (now : ℕ) → Event
 
 -- the answer to a datagram (own rule)
@@ -69,6 +71,7 @@ pub data Entry : Type 0 where
   Restarted : Entry
   Skipped : Entry
   NotSkipped : Entry
+  IsSetApart : Entry
   Advanced : Entry
 
 -- a history: a new client with its context, its first number and how long a request is pending, or one more event and its entry (own rule)
@@ -85,6 +88,12 @@ context (Then h event entry) = context h
 abbrev pub life_ms : History → ℕ
 life_ms (New s first ms) = ms
 life_ms (Then h event entry) = life_ms h
+
+-- how many places registrations have, and how many other requests, if these are apart: as it was said last, and at first they share all places (own rule)
+abbrev pub apart : History → Option Apart
+apart (New s first ms) = None
+apart (Then h (SetApart places) entry) = places
+apart (Then h event entry) = apart h
 
 -- the clock after an event: the later of the clock before and the event's own moment, if it has one (own rule)
 abbrev pub clock_by : Event → ℕ → ℕ
@@ -150,9 +159,9 @@ pending_at h moment = alive moment (life_ms h) (asked h)
 abbrev pub pending : History → List Asked
 pending h = pending_at h (clock h)
 
--- the history of a client that has another context from then on: that of a new client, whose clock goes on (own rule)
+-- the history of a client that has another context from then on: that of a new client, whose clock and places go on (own rule)
 abbrev pub replaced : SecurityContext → ℕ → History → History
-replaced s first h = Then (New s first (life_ms h)) (Advance (clock h)) Advanced
+replaced s first h = Then (Then (New s first (life_ms h)) (SetApart (apart h)) IsSetApart) (Advance (clock h)) Advanced
 
 -- both contexts have the same Sender Key, each seen by its client (RFC 8613, 3.1)
 abbrev pub HaveSameKey : SecurityContext → SecurityContext → Type 0

@@ -1,8 +1,9 @@
 -- How the code is seen: what requests, outcomes and results show of a client's answers.
-use Rattle.std.specs.Prelude.{◌≡◌, ℕ, Bool, true, false, List, take, Option, Some, None, Result, Ok, Err}
+use Rattle.std.specs.Prelude.{◌≡◌, ℕ, ◌-◌, Bool, true, false, List, take, Option, Some, None, Result, Ok, Err}
 use Rattle.osc_coap.specs.Inner.{InnerParts}
 use Rattle.osc_context.specs.Views.{number_of}
 use Rattle.osc_protect.specs.Views.{message_of, opened_number}
+use Rattle.osc_client.specs.declared.apart.Apart.{Apart}
 use Rattle.osc_client.specs.declared.client_outcome.ClientOutcome.{ClientOutcome}
 use Rattle.osc_client.specs.declared.client_outcome.ClientOutcome.TheVariants as client_outcomes
 use Rattle.osc_client.specs.declared.client_outcome.RequestError.{RequestError}
@@ -40,6 +41,11 @@ client_hearing_of outcome = None
 abbrev pub request_entry : Result ℕ RequestError → List ℕ → client.Entry
 request_entry (Ok n) out = client.Sent (take n out)
 request_entry (Err e) out = client.NotSent e
+
+-- of n places so many for registrations, and the others for other requests; or all for both (own rule)
+abbrev pub apart_among : ℕ → Option ℕ → Option Apart
+apart_among n None = None
+apart_among n (Some registrations) = Some (record { registrations = registrations; others = n - registrations })
 
 -- the entry of a Skip (how the code is seen)
 abbrev pub skipped_entry : Result Unit TooFewLeft → client.Entry

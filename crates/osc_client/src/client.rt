@@ -3,6 +3,7 @@
 ghost use Rattle.std.specs.Prelude.{◌≡◌, ◌≤◌, ◌^◌, ◌↔◌, IsErr, IsOk, IsTrue, OnErr};
 ghost use Rattle.osc_context.specs.Views.{as_client, number_of};
 
+use crate::apart::Apart;
 use crate::client_outcome::{SameSender, TooFewLeft};
 use crate::client_state::ClientState;
 use crate::pending::Pending;
@@ -21,8 +22,8 @@ pub struct Client<const N: usize> {
 impl<const N: usize> Client<N> {
     ghost use Rattle.osc_client.specs.Agrees.{ClientAgrees, HasTokensApart, client_parts};
     ghost use Rattle.osc_client.specs.ClientAnswer.{ClientAnswer};
-    ghost use Rattle.osc_client.specs.ClientHistory.{History, New, Then, Advance, Advanced, Forget, Forgot, HaveSameKey, Restart, Restarted, Skip, context as context_in, next, replaced};
-    ghost use Rattle.osc_client.specs.Views.{skipped_entry};
+    ghost use Rattle.osc_client.specs.ClientHistory.{History, New, Then, Advance, Advanced, Forget, Forgot, HaveSameKey, IsSetApart, Restart, Restarted, SetApart, Skip, context as context_in, next, replaced};
+    ghost use Rattle.osc_client.specs.Views.{apart_among, skipped_entry};
 
     /// Makes a client with nothing pending. Its requests are pending for `life_ms` milliseconds and no longer, except a registration that
     /// was notified.
@@ -97,6 +98,17 @@ impl<const N: usize> Client<N> {
         ensures unchanged { OnErr result (self.new ≡ self.old) }
     {
         self.state.skip(count)
+    }
+
+    /// Gives registrations places of their own: so many of the N places are for registrations alone from now on, and the others for other
+    /// requests alone, so that no number of observations refuses the next request. `None` lets both share all places again, as a new client
+    /// does. What is pending stays, also where more of a kind are pending than it has places. A request to which a registration gives way
+    /// needs no further place.
+    pub fn set_apart(&mut self, registrations: Option<usize>)
+        ensures follows { (h : History) → ClientAgrees self.old h → ClientAgrees self.new (Then h (SetApart (apart_among N registrations)) IsSetApart) }
+        ensures apart { HasTokensApart self.old → HasTokensApart self.new }
+    {
+        self.state.set_apart(Apart::among(N, registrations));
     }
 
     /// Moves the clock to `now`, in milliseconds, if that is later. Drops the requests whose time has passed.

@@ -16,7 +16,7 @@ pub enum RequestError {
     Unsupported(u16),
     /// A request with this token is pending, and doesn't give way to this one: see `Client::request`.
     TokenInUse,
-    /// The client has as many pending requests as it has room for; own rule.
+    /// The client has as many pending requests as it has places for, or places for requests of this kind: see `Client::set_apart`; own rule.
     PendingFull,
     /// No Sender Sequence Number is left.
     SequenceExhausted,

@@ -1,6 +1,6 @@
 //! Requests of a client.
 
-ghost use Rattle.std.specs.Prelude.{◌≡◌, ◌≢◌, ◌≤◌, ◌<◌, ◌^◌, ◌||◌, ℕ, IfOk, IfErr, IfSome, OnOk, OnErr, length, drop};
+ghost use Rattle.std.specs.Prelude.{◌≡◌, ◌≢◌, ◌≤◌, ◌<◌, ◌^◌, ◌||◌, ◌↔◌, ◌⊎◌, ℕ, IfOk, IfErr, IfSome, IsTrue, OnOk, OnErr, false, true, length, drop};
 ghost use Rattle.osc_coap.specs.Views.{parts_of};
 ghost use Rattle.osc_context.specs.Views.{number_of};
 ghost use Rattle.osc_client.specs.Requesting.{IsFirstReason, lifted};
@@ -11,7 +11,7 @@ use crate::client::Client;
 use crate::client_outcome::RequestError;
 use crate::client_state::ClientState;
 use crate::pending::{Pending, Wait};
-use crate::waiting::{Waiting, take_out_of};
+use crate::waiting::{Waiting, count_of_kind, take_out_of};
 use osc_coap::Message;
 use osc_context::{Features, Piv};
 use osc_observe::siblings::{cancels, copy_of, registers};
@@ -44,7 +44,7 @@ fn first_reason(plain: &Message<'_>, features: Features, other: RequestError) ->
 
 impl ClientState {
     ghost use Rattle.osc_client.specs.Agrees.{PartsAgree, TokensDiffer, parts_over};
-    ghost use Rattle.osc_client.specs.ClientAnswer.{CanAsk, ClientAnswer, IsAmong, RequestAnswer};
+    ghost use Rattle.osc_client.specs.ClientAnswer.{AreCrowded, CanAsk, ClientAnswer, IsAmong, RequestAnswer};
     ghost use Rattle.osc_client.specs.ClientHistory.{History, Then, Request, NotSent, Advance, Advanced, beside, clock, context, next, wait_of};
     ghost use Rattle.osc_client.specs.declared.client_outcome.RequestError.TheVariants.{TokenInUse};
     ghost use Rattle.osc_observe.specs.Observing.{cancels as cancelling, registers as registering};
@@ -85,6 +85,32 @@ impl ClientState {
         }
     }
 
+    /// Returns whether registrations have places of their own, and all places for messages as this one are taken.
+    fn is_crowded<W: Waiting>(&self, pending: &W, plain: &Message<'_>) -> bool
+        requires { W.is_table pending.now }
+        ensures { IsTrue result ↔ AreCrowded self.now.apart (registering (context_of self.now.context).features (parts_of plain.now).code (parts_of plain.now).options)
+            (W.requests pending.now) }
+    {
+        let Some(apart) = self.apart else {
+            return false;
+        };
+        let features = self.context.context().features();
+        let registering = registers(features, plain.code, &plain.options());
+        count_of_kind(pending, registering) >= apart.places_for(registering)
+    }
+
+    /// Returns whether there is no place for this message beside the pending requests.
+    fn is_full_for<W: Waiting>(&self, pending: &W, plain: &Message<'_>) -> bool
+        requires { W.is_table pending.now }
+        ensures yes { result ≡ true → (W.room pending.now ≤ length (W.requests pending.now))
+            ⊎ AreCrowded self.now.apart (registering (context_of self.now.context).features (parts_of plain.now).code (parts_of plain.now).options) (W.requests pending.now) }
+        ensures no { result ≡ false → (length (W.requests pending.now) < W.room pending.now)
+            × (AreCrowded self.now.apart (registering (context_of self.now.context).features (parts_of plain.now).code (parts_of plain.now).options) (W.requests pending.now) → ⊥) }
+        ensures fits { length (W.requests pending.now) ≤ W.room pending.now }
+    {
+        pending.is_full() || self.is_crowded(pending, plain)
+    }
+
     /// Returns the Sender Sequence Number of a request that is sealed now, and the place of the registration that gives way to it, if one
     /// does; or why there is none for a request that can be sealed, whatever the room for it.
     fn number_for<W: Waiting>(
@@ -108,7 +134,7 @@ impl ClientState {
         ensures no_keeper_failed { IfErr result (λ e. e ≢ KeeperFailed) }
     {
         let place = self.place_for(pending, plain)?;
-        if pending.is_full() && place.is_none() {
+        if self.is_full_for(pending, plain) && place.is_none() {
             return Err(RequestError::PendingFull);
         }
         match Piv::new(self.next) {

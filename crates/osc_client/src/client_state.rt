@@ -3,6 +3,7 @@
 ghost use Rattle.std.specs.Prelude.{◌≡◌, ◌≤◌, ◌^◌, ◌↔◌, IsTrue, OnErr};
 ghost use Rattle.osc_context.specs.Views.{as_client, number_of};
 
+use crate::apart::Apart;
 use crate::client_outcome::TooFewLeft;
 use crate::waiting::Waiting;
 use osc_context::{Context, Piv};
@@ -19,26 +20,28 @@ pub struct ClientState {
     pub(crate) clock: u64,
     // The next Sender Sequence Number, or the limit if none is left.
     pub(crate) next: u64,
+    pub(crate) apart: Option<Apart>,
     pub ghost in_range: { next ≤ 2 ^ 40 },
 }
 
 impl ClientState {
-    ghost use Rattle.std.specs.Prelude.{List, []};
+    ghost use Rattle.std.specs.Prelude.{List, [], Option, None};
     ghost use Rattle.osc_client.specs.Agrees.{PartsAgree, TokensDiffer, next_of, parts_over};
     ghost use Rattle.osc_client.specs.ClientAnswer.{SkipAnswer};
-    ghost use Rattle.osc_client.specs.ClientHistory.{Asked, HaveSameKey, History, Then, Advance, Advanced, Skip};
+    ghost use Rattle.osc_client.specs.ClientHistory.{Asked, HaveSameKey, History, Then, Advance, Advanced, IsSetApart, SetApart, Skip};
     ghost use Rattle.osc_client.specs.Views.{skipped_entry};
     ghost use Rattle.osc_protect.specs.Views.{context_of};
 
     /// Makes the state of a client whose next request has this number.
     pub(crate) fn new(context: Context, next: Piv, life_ms: u64) -> ClientState
-        ensures { parts_over result [] ≡ record { context = as_client context; life_ms = life_ms; clock = 0; next = number_of next; pending = [] } }
+        ensures { parts_over result [] ≡ record { context = as_client context; life_ms = life_ms; clock = 0; next = number_of next; apart = None; pending = [] } }
     {
         ClientState {
             context: KeyedContext::new(context),
             life_ms,
             clock: 0,
             next: next.number(),
+            apart: None,
         }
     }
 
@@ -47,7 +50,7 @@ impl ClientState {
     #[must_use]
     pub fn resumed(context: Context, life_ms: u64, clock: u64, next: Option<Piv>) -> ClientState
         ensures context { context_of result.context ≡ context }
-        ensures parts { parts_over result [] ≡ record { context = as_client context; life_ms = life_ms; clock = clock; next = next_of next; pending = [] } }
+        ensures parts { parts_over result [] ≡ record { context = as_client context; life_ms = life_ms; clock = clock; next = next_of next; apart = None; pending = [] } }
     {
         ClientState {
             context: KeyedContext::for_one_message(context),
@@ -57,6 +60,7 @@ impl ClientState {
                 Some(next) => next.number(),
                 None => OWN_LIMIT,
             },
+            apart: None,
         }
     }
 
@@ -67,9 +71,9 @@ impl ClientState {
         self.context.context().has_sender_of(context)
     }
 
-    /// Puts another context in the place of the client's, with its next number. The clock goes on.
+    /// Puts another context in the place of the client's, with its next number. The clock and the places go on.
     pub(crate) fn replace(&mut self, context: Context, next: Piv)
-        ensures { parts_over self.new [] ≡ record { context = as_client context; life_ms = self.old.life_ms; clock = self.old.clock; next = number_of next; pending = [] } }
+        ensures { parts_over self.new [] ≡ record { context = as_client context; life_ms = self.old.life_ms; clock = self.old.clock; next = number_of next; apart = self.old.apart; pending = [] } }
     {
         self.context = KeyedContext::new(context);
         self.next = next.number();
@@ -106,6 +110,14 @@ impl ClientState {
         }
         self.next += count;
         Ok(())
+    }
+
+    /// Says whether registrations have places of their own, as `Client::set_apart` does.
+    pub(crate) fn set_apart(&mut self, places: Option<Apart>)
+        ensures { (h : History) (requests : List Asked) → PartsAgree (parts_over self.old requests) h
+            → PartsAgree (parts_over self.new requests) (Then h (SetApart places) IsSetApart) }
+    {
+        self.apart = places;
     }
 
     /// Moves the clock to `now`, in milliseconds, if that is later. Drops the requests of the table whose time has passed.

@@ -1,6 +1,7 @@
 //! A client of OSCORE: one context, and the requests that wait for their responses (RFC 8613, 8.1 and 8.4).
 #![tactic(auto)]
 
+mod apart;
 mod client;
 mod client_outcome;
 mod client_request;
@@ -18,6 +19,7 @@ pub use decision::ClientDecision;
 /// you need none of it.
 #[doc(hidden)]
 pub mod siblings {
+    pub use crate::apart::Apart;
     pub use crate::client_state::ClientState;
     pub use crate::pending::{Found, Pending, Wait};
     pub use crate::waiting::{Waiting, forget_in};

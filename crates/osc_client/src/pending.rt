@@ -24,6 +24,7 @@ pub enum Wait {
 }
 
 impl Wait {
+    ghost use Rattle.osc_client.specs.ClientAnswer.{is_of_kind};
     ghost use Rattle.osc_client.specs.ClientHistory.{first_place as first, observes as observing};
 
     /// Returns whether notifications answer the request.
@@ -33,6 +34,17 @@ impl Wait {
         match self {
             Wait::Once => false,
             Wait::Observing { .. } => true,
+        }
+    }
+
+    /// Returns whether notifications answer the request, or the other way round.
+    pub(crate) fn is_of_kind(self, registering: bool) -> bool
+        ensures { result ≡ is_of_kind registering self }
+    {
+        if registering {
+            self.observes()
+        } else {
+            !self.observes()
         }
     }
 

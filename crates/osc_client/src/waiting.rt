@@ -2,7 +2,7 @@
 
 ghost use Rattle.std.specs.Prelude.{◌≡◌, ◌<◌, ◌≤◌, ◌++◌, ◌∷◌, [], ℕ, List, Some, IfSome, IfNone, true, false, length, map, slice_get, slice_set, remove as but_place};
 ghost use Rattle.osc_client.specs.Agrees.{ClientParts, PartsAgree, TokensDiffer};
-ghost use Rattle.osc_client.specs.ClientAnswer.{ClientAnswer, IsAmong};
+ghost use Rattle.osc_client.specs.ClientAnswer.{ClientAnswer, IsAmong, of_kind};
 ghost use Rattle.osc_client.specs.ClientDeciding.{IsFoundIn};
 ghost use Rattle.osc_client.specs.ClientHistory.{Asked, History, Then, Forget, Forgot, alive};
 ghost use Rattle.osc_client.specs.Requesting.{without_place};
@@ -34,6 +34,17 @@ pub trait Waiting {
         ensures yes { result ≡ true → room self.now ≤ length (requests self.now) }
         ensures no { result ≡ false → length (requests self.now) < room self.now }
         ensures fits { length (requests self.now) ≤ room self.now };
+
+    /// Returns how many requests there are.
+    fn len(&self) -> usize
+        requires { is_table self.now }
+        ensures { result ≡ length (requests self.now) };
+
+    /// Returns what the request at a place waits for.
+    fn awaits_at(&self, place: usize) -> Wait
+        requires table { is_table self.now }
+        requires within { place < length (requests self.now) }
+        ensures { (r : Asked) → slice_get (requests self.now) place ≡ Some r → result ≡ r.wait };
 
     /// Puts a request behind the others.
     fn push(&mut self, request: Pending)
@@ -89,6 +100,14 @@ impl<const N: usize> Waiting for ArrayVec<Pending, N> {
         ArrayVec::is_full(self)
     }
 
+    fn len(&self) -> usize {
+        ArrayVec::len(self)
+    }
+
+    fn awaits_at(&self, place: usize) -> Wait {
+        self[place].wait
+    }
+
     fn push(&mut self, request: Pending) {
         ArrayVec::push(self, request);
     }
@@ -104,6 +123,20 @@ impl<const N: usize> Waiting for ArrayVec<Pending, N> {
     fn drop_expired(&mut self, clock: u64, life_ms: u64) {
         drop_expired(self, clock, life_ms);
     }
+}
+
+/// Returns how many of the requests are registrations, or how many are others.
+pub(crate) fn count_of_kind<W: Waiting>(pending: &W, registering: bool) -> usize
+    requires { W.is_table pending.now }
+    ensures { result ≡ length (of_kind registering (W.requests pending.now)) }
+{
+    let mut count = 0;
+    for place in 0..pending.len() {
+        if pending.awaits_at(place).is_of_kind(registering) {
+            count += 1;
+        }
+    }
+    count
 }
 
 /// Takes the request at this place out, if one is named.

@@ -69,7 +69,7 @@ impl PendingHandle {
     }
 
     /// Returns what the request waits for.
-    fn wait(&self) -> Wait
+    pub(crate) fn wait(&self) -> Wait
         ensures { result ≡ wait_in self.now }
     {
         if self.observes == 0 {

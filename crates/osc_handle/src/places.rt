@@ -98,6 +98,15 @@ impl Waiting for Places<'_> {
         *self.count == self.places.len()
     }
 
+    fn len(&self) -> usize {
+        *self.count
+    }
+
+    fn awaits_at(&self, place: usize) -> Wait {
+        let places = &*self.places;
+        places[place].wait()
+    }
+
     fn push(&mut self, request: Pending) {
         self.places[*self.count] = PendingHandle::of(&request);
         *self.count += 1;

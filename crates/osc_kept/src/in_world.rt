@@ -10,7 +10,7 @@ ghost use Rattle.osc_client.specs.ClientHistory as asked;
 ghost use Rattle.osc_life.specs.ServerHistory as served;
 ghost use Rattle.osc_life.specs.LifeAnswer.{asks_own};
 ghost use Rattle.osc_life.specs.Views.{reply_entry, values_of};
-ghost use Rattle.osc_client.specs.Views.{request_entry};
+ghost use Rattle.osc_client.specs.Views.{apart_among, request_entry};
 ghost use Rattle.osc_endpoint.specs.Views.{server_entry};
 ghost use Rattle.osc_client.specs.declared.client_outcome.RequestError.TheVariants as requests;
 ghost use Rattle.osc_life.specs.declared.outcome.Outcome.TheVariants as outcomes;
@@ -288,6 +288,19 @@ pub fn forget_in_world<K: Keeper, const N: usize>(
     // For the proof alone.
     kept_ends_in_world();
     client.forget(token)
+}
+
+/// Calls `KeptClient::set_apart`.
+pub fn set_apart_in_world<K: Keeper, const N: usize>(
+    client: &mut KeptClient<K, N>,
+    registrations: Option<usize>,
+)
+    ensures answered { (s : SecurityContext) (w : World) → IsKept N s w → ClientRunsIn s w client.old
+        → ClientAfter s w (asked.SetApart (apart_among N registrations)) asked.IsSetApart client.old client.new }
+{
+    // For the proof alone.
+    kept_ends_in_world();
+    client.set_apart(registrations);
 }
 
 /// Calls `KeptClient::advance`.

@@ -8,8 +8,8 @@ mod laws;
 pub use in_world::{
     advance_in_world, decide_in_world, decide_response_in_world, forget_in_world, notify_in_world,
     reply_in_world, request_in_world, restart_client_in_world, restart_server_in_world,
-    run_client_in_world, run_server_in_world, start_client_in_world, start_server_in_world,
-    take_counted_in_world, take_in_world, take_response_in_world,
+    run_client_in_world, run_server_in_world, set_apart_in_world, start_client_in_world,
+    start_server_in_world, take_counted_in_world, take_in_world, take_response_in_world,
 };
 pub use laws::{
     both_ends, each_context, echo_by_numbers, fresh_by_saving, kept_ends_are_plain,

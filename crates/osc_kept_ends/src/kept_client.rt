@@ -4,9 +4,9 @@ ghost use Rattle.std.specs.Prelude.{◌≡◌, ◌≢◌, ◌≤◌, ◌+◌, �
 ghost use Rattle.osc_coap.specs.Views.{parts_of};
 ghost use Rattle.osc_context.specs.Views.{as_client, number_of};
 ghost use Rattle.osc_client.specs.ClientDeciding.{CanShow, LeavesBy};
-ghost use Rattle.osc_client.specs.ClientHistory.{History, New, Then, Advance, Advanced, Forget, Forgot, HaveSameKey, Request, Restart, Restarted, context as context_in, next, replaced};
+ghost use Rattle.osc_client.specs.ClientHistory.{History, New, Then, Advance, Advanced, Forget, Forgot, HaveSameKey, IsSetApart, Request, Restart, Restarted, SetApart, context as context_in, next, replaced};
 ghost use Rattle.osc_client.specs.Requesting.{sent_entry};
-ghost use Rattle.osc_client.specs.Views.{request_entry};
+ghost use Rattle.osc_client.specs.Views.{apart_among, request_entry};
 ghost use Rattle.osc_client.specs.declared.client_outcome.RequestError.TheVariants.{KeeperFailed};
 ghost use Rattle.osc_kept_ends.specs.declared.kept_error.KeptError.TheVariants.{LivesExhausted};
 ghost use Rattle.osc_kept_ends.specs.KeptAsking.{IsKept, KeptDecides, KeptStep, KeptTakes};
@@ -192,6 +192,15 @@ impl<K: Keeper, const N: usize> KeptClient<K, N> {
         ensures source { self.new.source ≡ self.old.source }
     {
         self.client.forget(token)
+    }
+
+    /// Gives registrations places of their own, so many of the N, as `Client::set_apart` does. Draws no number.
+    pub fn set_apart(&mut self, registrations: Option<usize>)
+        ensures answered { (h : History) → IsKept self.old.client (upcoming (own_in self.old.source)) h
+            → KeptStep h (SetApart (apart_among N registrations)) IsSetApart (own_in self.old.source) (own_in self.old.source) self.new.client }
+        ensures source { self.new.source ≡ self.old.source }
+    {
+        self.client.set_apart(registrations);
     }
 
     /// Moves the clock to `now`, in milliseconds, as `Client::advance` does. Draws no number.

@@ -6,7 +6,7 @@ ghost use Rattle.osc_client.specs.Agrees.{ClientAgrees};
 ghost use Rattle.osc_client.specs.ClientAnswer.{ClientAnswer};
 ghost use Rattle.osc_client.specs.ClientDeciding.{CanShow, ClientDecidesTo, ClientTakes, LeavesBy};
 ghost use Rattle.osc_client.specs.ClientHistory as asked;
-ghost use Rattle.osc_client.specs.Views.{request_entry};
+ghost use Rattle.osc_client.specs.Views.{apart_among, request_entry};
 ghost use Rattle.osc_client.specs.declared.client_outcome.RequestError.TheVariants.{KeeperFailed};
 ghost use Rattle.osc_kept_ends.specs.Numbering.{upcoming};
 ghost use Rattle.osc_kept_ends.specs.PeerOwning.{ahead_in, own_in, received_in};
@@ -79,5 +79,14 @@ impl<R: RecordKeeper, const N: usize> KeptPeer<R, N> {
         ensures same { (self.new.server ≡ self.old.server) × (self.new.source ≡ self.old.source) }
     {
         self.client.forget(token)
+    }
+
+    /// Gives registrations places of their own, so many of the N, as `Client::set_apart` does. Draws no number.
+    pub fn set_apart(&mut self, registrations: Option<usize>)
+        ensures follows { (k : asked.History) → ClientAgrees self.old.client k
+            → ClientAgrees self.new.client (asked.Then k (asked.SetApart (apart_among N registrations)) asked.IsSetApart) }
+        ensures same { (self.new.server ≡ self.old.server) × (self.new.source ≡ self.old.source) }
+    {
+        self.client.set_apart(registrations);
     }
 }

@@ -9,7 +9,7 @@ use Rattle.osc_protect.specs.declared.protect_error.ProtectError.{ProtectError}
 use Rattle.osc_protect.specs.declared.protect_error.ProtectError.TheVariants as seals
 use Rattle.osc_client.specs.declared.client_outcome.RequestError.TheVariants.{NotThatKind, Unsupported, TokenInUse, PendingFull, SequenceExhausted, TooLong, NoRoom}
 use Rattle.osc_laws.specs.AnswerLaws.{ClientAnswerLaws}
-use Rattle.osc_client.specs.ClientAnswer.{CanAsk, IsAmong, IsNewRequest, RequestAnswer, staying}
+use Rattle.osc_client.specs.ClientAnswer.{CanAsk, HasPlace, IsAmong, IsFull, IsNewRequest, RequestAnswer, staying}
 use Rattle.osc_client.specs.ClientHistory.{Entry, History, NotSent, Sent, context, next}
 use Rattle.osc_client.specs.Requesting.{lifted}
 use Rattle.osc_laws.proofs.LifeReplies.{unsupported_among}
@@ -31,8 +31,8 @@ record IsRefused (n : ℕ) (h : History) (moment : ℕ) (p : Parts) (room : ℕ)
 -- it is for one of these
 abbrev IsHindered : ℕ → History → ℕ → Parts → Entry → Type 0
 IsHindered n h moment p (NotSent TokenInUse) = IsPlainRequest (context h).features p × IsAmong p.token (staying h moment p)
-IsHindered n h moment p (NotSent PendingFull) = IsNewRequest h moment p × (n ≤ length (staying h moment p))
-IsHindered n h moment p (NotSent SequenceExhausted) = IsNewRequest h moment p × (length (staying h moment p) < n) × (2 ^ 40 ≤ next h)
+IsHindered n h moment p (NotSent PendingFull) = IsNewRequest h moment p × IsFull n h moment p
+IsHindered n h moment p (NotSent SequenceExhausted) = IsNewRequest h moment p × HasPlace n h moment p × (2 ^ 40 ≤ next h)
 IsHindered n h moment p entry = ⊥
 
 -- it is sealed
@@ -66,6 +66,11 @@ module _ (laws : ClientAnswerLaws) (n : ℕ) (h : History) (moment : ℕ) (p : P
   sort_of (Sent bytes) row = inr (inr (inr (record { bytes = bytes; can = row.0; seals = row.1; fits = row.2; entry_is = refl })))
   sort_of x row = absurd row
 
+  -- there is a place, or there is none
+  one_or_other : HasPlace n h moment p → IsFull n h moment p → ⊥
+  one_or_other place (inl full) = let room = place.0 in omega (arith, full, room)
+  one_or_other place (inr crowded) = place.1 crowded
+
   plain_of : (x : Entry) → IsHindered n h moment p x → IsPlainRequest (context h).features p
   plain_of (NotSent TokenInUse) row = row.0
   plain_of (NotSent PendingFull) row = row.0.0
@@ -80,7 +85,7 @@ module _ (laws : ClientAnswerLaws) (n : ℕ) (h : History) (moment : ℕ) (p : P
 
   no_way : (x : Entry) → IsHindered n h moment p x → CanAsk n h moment p → ⊥
   no_way (NotSent TokenInUse) row can = can.0.1 row.1
-  no_way (NotSent PendingFull) row can = let full = row.1 in let room = can.1 in omega (arith, full, room)
+  no_way (NotSent PendingFull) row can = one_or_other can.1 row.1
   no_way (NotSent SequenceExhausted) row can = let none = row.2 in let left = can.2 in omega (arith, none, left)
   no_way x row can = absurd row
 
@@ -90,9 +95,9 @@ module _ (laws : ClientAnswerLaws) (n : ℕ) (h : History) (moment : ℕ) (p : P
   one_hindered (NotSent TokenInUse) (NotSent SequenceExhausted) a b = absurd (b.0.1 a.1)
   one_hindered (NotSent PendingFull) (NotSent TokenInUse) a b = absurd (a.0.1 b.1)
   one_hindered (NotSent PendingFull) (NotSent PendingFull) a b = refl
-  one_hindered (NotSent PendingFull) (NotSent SequenceExhausted) a b = let full = a.1 in let room = b.1 in absurd (omega (arith, full, room))
+  one_hindered (NotSent PendingFull) (NotSent SequenceExhausted) a b = absurd (one_or_other b.1 a.1)
   one_hindered (NotSent SequenceExhausted) (NotSent TokenInUse) a b = absurd (a.0.1 b.1)
-  one_hindered (NotSent SequenceExhausted) (NotSent PendingFull) a b = let full = b.1 in let room = a.1 in absurd (omega (arith, full, room))
+  one_hindered (NotSent SequenceExhausted) (NotSent PendingFull) a b = absurd (one_or_other a.1 b.1)
   one_hindered (NotSent SequenceExhausted) (NotSent SequenceExhausted) a b = refl
   one_hindered (NotSent TokenInUse) y a b = absurd b
   one_hindered (NotSent PendingFull) y a b = absurd b

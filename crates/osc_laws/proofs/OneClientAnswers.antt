@@ -4,7 +4,7 @@ use Rattle.std.specs.Prelude.{◌↔◌, max}
 use Rattle.osc_client.specs.Agrees.{TokensDiffer}
 use Rattle.osc_laws.specs.AnswerLaws.{ClientAnswerLaws}
 use Rattle.osc_client.specs.ClientAnswer.{ClientAnswer, SkipAnswer}
-use Rattle.osc_client.specs.ClientHistory.{Advance, Advanced, Asked, Datagram, Deliver, Entry, Event, Forget, Forgot, History, New, NotSkipped, Notified, Request, Restart, Restarted, Sent, Skip, Skipped, Then, Took, asked, clock, context, life_ms, next, pending, pending_at, wait_of, without}
+use Rattle.osc_client.specs.ClientHistory.{Advance, Advanced, Asked, Datagram, Deliver, Entry, Event, Forget, Forgot, History, IsSetApart, New, NotSkipped, Notified, Request, Restart, Restarted, Sent, SetApart, Skip, Skipped, Then, Took, asked, clock, context, life_ms, next, pending, pending_at, wait_of, without}
 use Rattle.osc_laws.specs.ClientLaws.{AllClientAnswers, OneClientAnswer}
 use Rattle.osc_observe.specs.Observing.{place_of}
 use Rattle.osc_client.proofs.Asking.{differ_filter, differ_heard, differ_later, ended, heard_alive}
@@ -39,6 +39,7 @@ tokens_differ n (Then h (Forget token) entry) a =
     subst TokensDiffer (ended h (clock h) token) (differ_without h (clock h) token (tokens_differ n h a.0))
 tokens_differ n (Then h (Restart first) entry) a = none_differ
 tokens_differ n (Then h (Skip count) entry) a = tokens_differ n h a.0
+tokens_differ n (Then h (SetApart places) entry) a = tokens_differ n h a.0
 tokens_differ n (Then h (Advance now) entry) a = differ_later h now (tokens_differ n h a.0)
 
 one_test : (x y : Bool) (P : Type 0) → (x ≡ true) ↔ P → (y ≡ true) ↔ P → x ≡ y
@@ -68,6 +69,9 @@ one_answer laws n h (Restart first) Restarted Restarted differ row other = refl
 one_answer laws n h (Restart first) Restarted y differ row other = absurd other
 one_answer laws n h (Restart first) x y differ row other = absurd row
 one_answer laws n h (Skip count) x y differ row other = one_skip h count x y row other
+one_answer laws n h (SetApart places) IsSetApart IsSetApart differ row other = refl
+one_answer laws n h (SetApart places) IsSetApart y differ row other = absurd other
+one_answer laws n h (SetApart places) x y differ row other = absurd row
 one_answer laws n h (Advance now) Advanced Advanced differ row other = refl
 one_answer laws n h (Advance now) Advanced y differ row other = absurd other
 one_answer laws n h (Advance now) x y differ row other = absurd row

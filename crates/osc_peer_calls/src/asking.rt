@@ -4,7 +4,7 @@ ghost use Rattle.std.specs.Prelude.{◌≡◌, ◌≢◌, ◌+◌, IfErr, length
 ghost use Rattle.osc_coap.specs.Views.{parts_of};
 ghost use Rattle.osc_context.specs.SecurityContext.{SecurityContext};
 ghost use Rattle.osc_client.specs.ClientHistory as asked;
-ghost use Rattle.osc_client.specs.Views.{request_entry};
+ghost use Rattle.osc_client.specs.Views.{apart_among, request_entry};
 ghost use Rattle.osc_client.specs.declared.client_outcome.RequestError.TheVariants as requests;
 ghost use Rattle.osc_kept.specs.EchoNumbers.{EchoesHeard};
 ghost use Rattle.osc_kept.specs.World.{AtClient};
@@ -76,4 +76,17 @@ pub fn forget_in_list<R: RecordKeeper, const N: usize>(
     // For the proof alone.
     peer_calls_in_list();
     peer.forget(token)
+}
+
+/// Calls `KeptPeer::set_apart`.
+pub fn set_apart_in_list<R: RecordKeeper, const N: usize>(
+    peer: &mut KeptPeer<R, N>,
+    registrations: Option<usize>,
+)
+    ensures { (s : SecurityContext) (w : Peers) → AreCounted N s w → RunsIn s w peer.old
+        → AsksAfter s w (asked.SetApart (apart_among N registrations)) asked.IsSetApart peer.new }
+{
+    // For the proof alone.
+    peer_calls_in_list();
+    peer.set_apart(registrations);
 }

@@ -11,7 +11,9 @@ mod laws;
 mod remembering;
 
 pub use answering::{decide_in_list, notify_in_list, reply_in_list, take_in_list};
-pub use asking::{decide_response_in_list, forget_in_list, hear_in_list, request_in_list};
+pub use asking::{
+    decide_response_in_list, forget_in_list, hear_in_list, request_in_list, set_apart_in_list,
+};
 pub use beginning::{advance_in_list, start_in_list};
 pub use challenging::{challenge_in_list, decide_fresh_in_list};
 pub use echoing::{

@@ -130,6 +130,7 @@ asks_still p q requests room old new a has life clock context rises w =
       context_is = context ∙ w.context_is;
       life_is = life ∙ w.life_is;
       clock_is = clock ∙ w.clock_is;
+      apart_is = w.apart_is;
       least = let least = w.least in omega (arith, least, rises);
       table = w.table;
       differ = w.differ;

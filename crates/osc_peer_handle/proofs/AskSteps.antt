@@ -7,7 +7,7 @@ use Rattle.std.specs.Prelude.{IfNone, IfSome}
 use Rattle.osc_coap.specs.Datagram.{Parts}
 use Rattle.osc_client.specs.Agrees.{ClientParts, PartsAgree, TokensDiffer, next_of}
 use Rattle.osc_client.specs.ClientAnswer.{ClientAnswer}
-use Rattle.osc_client.specs.ClientHistory.{Answer, Asked, Datagram, Entry, Event, Forget, Forgot, History, NotSent, Request, Sent, Skip, Skipped, Then, Took, context, life_ms, next}
+use Rattle.osc_client.specs.ClientHistory.{Answer, Asked, Datagram, Entry, Event, Forget, Forgot, History, NotSent, Request, Sent, Skip, Skipped, Then, Took, apart, context, life_ms, next}
 use Rattle.osc_laws.specs.ClientLaws.{AllClientAnswers}
 use Rattle.osc_client.specs.declared.client_outcome.RequestError.{RequestError}
 use Rattle.osc_life.specs.ServerHistory as served
@@ -30,7 +30,7 @@ next_is (Some number) n most given limit = given
 
 -- what the client is made of, by the bytes and these requests
 abbrev pub parts_of_peer : PeerHandle → List Asked → ClientParts
-parts_of_peer p requests = record { context = client_in p.server.server.slot.context; life_ms = p.life_ms; clock = p.clock; next = next_in p; pending = requests }
+parts_of_peer p requests = record { context = client_in p.server.server.slot.context; life_ms = p.life_ms; clock = p.clock; next = next_in p; apart = None; pending = requests }
 
 -- the client, once it passed over what the server used
 pub caught_up_asking : (p : PeerHandle) (requests : List Asked) (room : ℕ) (o : Own) (a : History) → AsksBehind p requests room o a
@@ -49,6 +49,7 @@ caught_up_asking p requests room o a w =
         life_is = w.life_is;
         clock_is = w.clock_is;
         next_is = omega (arith, least, is);
+        apart_is = sym w.apart_is;
         table = w.table;
         differ = subst TokensDiffer w.table w.differ;
       },
@@ -87,15 +88,16 @@ serves_moved p old new next clock h has rises w =
 
 -- what the client came to is what the bytes and the requests say, and it isn't behind
 asks_moved : (p : PeerHandle) (room : ℕ) (old new : Own) (a b : History) (event : Event) (entry : Entry) (requests later : List Asked) (parts : ClientParts) → AsksBehind p requests room old a
-    → ClientPasses room a b → ClientAnswer room b event entry → PartsAgree parts (Then b event entry) → parts.pending ≡ later → TokensDiffer later
+    → ClientPasses room a b → apart (Then b event entry) ≡ apart b → ClientAnswer room b event entry → PartsAgree parts (Then b event entry) → parts.pending ≡ later → TokensDiffer later
     → HasNumbers (moved p parts.next parts.clock) new → AsksBehind (moved p parts.next parts.clock) later room new (Then b event entry)
-asks_moved p room old new a b event entry requests later parts w passes row agrees table differ has =
+asks_moved p room old new a b event entry requests later parts w passes still row agrees table differ has =
     let same : b ≡ Then a (Skip passes.count) Skipped = passes.is in
     record {
       has = has;
       context_is = w.context_is ∙ ap context (sym same);
       life_is = w.life_is ∙ ap life_ms (sym same);
       clock_is = agrees.clock_is;
+      apart_is = still ∙ ap apart same ∙ w.apart_is;
       least = let is = agrees.next_is in let comes = has.next_is in omega (arith, is, comes);
       table = sym table ∙ agrees.table;
       differ = differ;
@@ -106,10 +108,10 @@ asks_moved p room old new a b event entry requests later parts w passes row agre
 
 -- what the client came to, and its numbers
 steps_asking : (p : PeerHandle) (room : ℕ) (old new : Own) (a b : History) (event : Event) (entry : Entry) (requests later : List Asked) (parts : ClientParts) → AsksBehind p requests room old a
-    → ClientPasses room a b → next b ≡ upcoming old → ClientAnswer room b event entry → PartsAgree parts (Then b event entry) → parts.pending ≡ later → TokensDiffer later
+    → ClientPasses room a b → apart (Then b event entry) ≡ apart b → next b ≡ upcoming old → ClientAnswer room b event entry → PartsAgree parts (Then b event entry) → parts.pending ≡ later → TokensDiffer later
     → parts.next ≡ upcoming new → AreReserved new p.server.reserved → Steps (draws event) (uses b event entry) old new
     → StepsAsking p room a event entry old (moved p parts.next parts.clock) later
-steps_asking p room old new a b event entry requests later parts w passes reaches row agrees table differ is numbers steps =
+steps_asking p room old new a b event entry requests later parts w passes still reaches row agrees table differ is numbers steps =
     let has = has_moved p new parts.next parts.clock w.has.whole is numbers in
     record {
       b = b;
@@ -118,7 +120,7 @@ steps_asking p room old new a b event entry requests later parts w passes reache
       row = row;
       new = new;
       numbers = steps;
-      asks = asks_moved p room old new a b event entry requests later parts w passes row agrees table differ has;
+      asks = asks_moved p room old new a b event entry requests later parts w passes still row agrees table differ has;
       serves = λ h x. serves_moved p old new parts.next parts.clock h has (steps_rise (draws event) (uses b event entry) old new p.server.reserved w.has.numbers steps) x;
     }
 
@@ -137,7 +139,7 @@ sent p room old a b now plain size bytes requests later parts w passes before wa
     let next_is : next b ≡ upcoming old = next_of_passed p requests room old a b w before in
     let below : upcoming old < 2 ^ 40 = subst (λ n. n < 2 ^ 40) next_is row.0.2 in
     let hand : mid.hand ≡ Some (next b) = in_hand old mid drawn below ∙ ap (λ n. Some n) (sym next_is) in
-    steps_asking p room old (after (Use (next b)) mid) a b (Request now plain size) (Sent bytes) requests later parts w passes next_is row agrees table differ
+    steps_asking p room old (after (Use (next b)) mid) a b (Request now plain size) (Sent bytes) requests later parts w passes refl next_is row agrees table differ
     (agrees.next_is ∙ numbers.last (next b) hand) (used mid (next b) p.server.reserved numbers) (mid, drawn, (hand, refl))
 
 -- a request that wasn't
@@ -149,7 +151,7 @@ not_sent p room old a b now plain size e requests later parts w passes before wa
     let top = w.has.whole.server.reserved in
     let (mid, drawn, numbers) = drawn_by true old p.server.reserved w.has.numbers top (λ x. wants (subst (λ n. WantsSave true n p.server.reserved) (sym w.has.next_is) x)) in
     let next_is : next b ≡ upcoming old = next_of_passed p requests room old a b w before in
-    steps_asking p room old mid a b (Request now plain size) (NotSent e) requests later parts w passes next_is row agrees table differ
+    steps_asking p room old mid a b (Request now plain size) (NotSent e) requests later parts w passes refl next_is row agrees table differ
     (agrees.next_is ∙ next_is ∙ sym (upcoming_stays true old mid drawn)) numbers (mid, drawn, (tt, refl))
 
 -- a datagram
@@ -159,7 +161,7 @@ took : (p : PeerHandle) (room : ℕ) (old : Own) (a b : History) (now : ℕ) (d 
     → StepsAsking p room a (Datagram now d) (Took answer) old (moved p parts.next parts.clock) later
 took p room old a b now d answer requests later parts w passes before row agrees table differ =
     let next_is = next_of_passed p requests room old a b w before in
-    steps_asking p room old old a b (Datagram now d) (Took answer) requests later parts w passes next_is row agrees table differ
+    steps_asking p room old old a b (Datagram now d) (Took answer) requests later parts w passes refl next_is row agrees table differ
     (agrees.next_is ∙ next_is) w.has.numbers (old, refl, (tt, refl))
 
 -- the same, where the values are those that the bytes get
@@ -196,9 +198,9 @@ pub forgot : (p : PeerHandle) (room : ℕ) (old : Own) (a b : History) (token : 
     → AsksBehind p requests room old a → ClientPasses room a b → PartsAgree (parts_of_peer p requests) b → ClientAnswer room b (Forget token) (Forgot was)
     → PartsAgree (parts_of_peer p later) (Then b (Forget token) (Forgot was)) → TokensDiffer later → StepsAsking p room a (Forget token) (Forgot was) old p later
 forgot p room old a b token was requests later w passes before row agrees differ =
-    steps_asking p room old old a b (Forget token) (Forgot was) requests later (parts_of_peer p later) w passes (next_of_passed p requests room old a b w before) row agrees refl differ w.has.next_is w.has.numbers (old, refl, (tt, refl))
+    steps_asking p room old old a b (Forget token) (Forgot was) requests later (parts_of_peer p later) w passes refl (next_of_passed p requests room old a b w before) row agrees refl differ w.has.next_is w.has.numbers (old, refl, (tt, refl))
 
 -- a client with these values is made of what the bytes and the requests say
 pub made_of : (p : PeerHandle) (parts : ClientParts) (requests : List Asked)
-    → parts ≡ record { context = client_in p.server.server.slot.context; life_ms = p.life_ms; clock = p.clock; next = next_in p; pending = [] } → record parts { pending = requests } ≡ parts_of_peer p requests
+    → parts ≡ record { context = client_in p.server.server.slot.context; life_ms = p.life_ms; clock = p.clock; next = next_in p; apart = None; pending = [] } → record parts { pending = requests } ≡ parts_of_peer p requests
 made_of p parts requests is = ap (λ (x : ClientParts). record x { pending = requests }) is

@@ -67,6 +67,7 @@ begun_asking p context start size sender floor room life_ms adds bytes starts re
       context_is = exchanged_in p.server.server.slot.context context same;
       life_is = life_is;
       clock_is = clock_is;
+      apart_is = refl;
       least = omega arith;
       table = refl;
       differ = λ i j d less within. absurd (omega (arith, within));
@@ -104,6 +105,7 @@ asks_saved p o new sender received generation requests room a has same w =
       context_is = w.context_is;
       life_is = w.life_is;
       clock_is = w.clock_is;
+      apart_is = w.apart_is;
       least = let least = w.least in omega (arith, least, same);
       table = w.table;
       differ = w.differ;

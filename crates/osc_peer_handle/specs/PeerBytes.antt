@@ -1,6 +1,6 @@
 -- To be believed: what the bytes of a peer say in both of its roles (RFC 8613, 3.1, 7.2.1, 7.4 and B.1). p are the bytes before a call, q those after it, o, old and
 -- new are its numbers, h and g histories of its server, a and b of its client, requests are its pending requests, room is how many of them there is room for.
-use Rattle.std.specs.Prelude.{◌≡◌, ◌⊎◌, ◌+◌, ◌<◌, ◌≤◌, ◌^◌, ℕ, Bool, List, Some}
+use Rattle.std.specs.Prelude.{◌≡◌, ◌⊎◌, ◌+◌, ◌<◌, ◌≤◌, ◌^◌, ℕ, Bool, List, Some, None}
 use Rattle.std.specs.Option.{option_map}
 use Rattle.osc_context.specs.Reserving.{next_limit}
 use Rattle.osc_client.specs.Agrees.{TokensDiffer}
@@ -73,6 +73,7 @@ pub record AsksBehind (p : PeerHandle) (requests : List asked.Asked) (room : ℕ
   pub context_is : client_in p.server.server.slot.context ≡ asked.context a
   pub life_is : p.life_ms ≡ asked.life_ms a
   pub clock_is : p.clock ≡ asked.clock a
+  pub apart_is : asked.apart a ≡ None
   pub least : asked.next a ≤ upcoming o
   pub table : requests ≡ asked.pending a
   pub differ : TokensDiffer requests

@@ -271,7 +271,7 @@ impl PeerHandle {
     pub(crate) fn asking(&self) -> ClientState
         requires { IsPeer self.now }
         ensures { parts_over result []
-            ≡ record { context = client_in self.now.server.server.slot.context; life_ms = self.now.life_ms; clock = self.now.clock; next = next_in self.now; pending = [] } }
+            ≡ record { context = client_in self.now.server.server.slot.context; life_ms = self.now.life_ms; clock = self.now.clock; next = next_in self.now; apart = None; pending = [] } }
     {
         let Some(context) = self.server.server.slot.context.context() else {
             unreachable!();

@@ -7,7 +7,7 @@ use Rattle.osc_protect.specs.Sealed.{SealsNotification, SealsRequest, SealsRespo
 use Rattle.osc_protect.specs.SealRefusals.{IsPlainResponse, RefusesToSeal}
 use Rattle.osc_protect.specs.declared.protect_error.ProtectError.TheVariants as seals
 use Rattle.osc_observe.specs.Observing.{is_notification}
-use Rattle.osc_client.specs.ClientAnswer.{ClientAnswer, IsNewRequest, staying}
+use Rattle.osc_client.specs.ClientAnswer.{ClientAnswer, HasPlace, IsNewRequest}
 use Rattle.osc_client.specs.ClientHistory as client
 use Rattle.osc_client.specs.declared.client_outcome.RequestError.TheVariants as requests
 use Rattle.osc_life.specs.declared.server_error.ReplyError.TheVariants as replies
@@ -71,15 +71,15 @@ asks h = omega arith
 
 request_row : (n : ℕ) (h : client.History) (now : ℕ) (p : Parts) (room : ℕ) (x : client.Entry) → ClientAnswer n (after h) (client.Request now p room) x ≡ ClientAnswer n h (client.Request now p room) x
 request_row n h now p room (client.NotSent requests.SequenceExhausted) =
-    ap (λ (q : ℕ). IsNewRequest h (max (client.clock h) now) p × (length (staying h (max (client.clock h) now) p) < n) × (2 ^ 40 ≤ q)) (asks h)
+    ap (λ (q : ℕ). IsNewRequest h (max (client.clock h) now) p × HasPlace n h (max (client.clock h) now) p × (2 ^ 40 ≤ q)) (asks h)
 request_row n h now p room (client.NotSent requests.TooLong) =
-    ap (λ (q : ℕ). (IsNewRequest h (max (client.clock h) now) p × (length (staying h (max (client.clock h) now) p) < n) × (q < 2 ^ 40))
+    ap (λ (q : ℕ). (IsNewRequest h (max (client.clock h) now) p × HasPlace n h (max (client.clock h) now) p × (q < 2 ^ 40))
     × RefusesToSeal (request_protection (client.context h)) q p room seals.TooLong) (asks h)
 request_row n h now p room (client.NotSent requests.NoRoom) =
-    ap (λ (q : ℕ). (IsNewRequest h (max (client.clock h) now) p × (length (staying h (max (client.clock h) now) p) < n) × (q < 2 ^ 40))
+    ap (λ (q : ℕ). (IsNewRequest h (max (client.clock h) now) p × HasPlace n h (max (client.clock h) now) p × (q < 2 ^ 40))
     × RefusesToSeal (request_protection (client.context h)) q p room seals.NoRoom) (asks h)
 request_row n h now p room (client.Sent bytes) =
-    ap (λ (q : ℕ). (IsNewRequest h (max (client.clock h) now) p × (length (staying h (max (client.clock h) now) p) < n) × (q < 2 ^ 40))
+    ap (λ (q : ℕ). (IsNewRequest h (max (client.clock h) now) p × HasPlace n h (max (client.clock h) now) p × (q < 2 ^ 40))
     × SealsRequest (client.context h) q p bytes × (length bytes ≤ room)) (asks h)
 request_row n h now p room x = refl
 

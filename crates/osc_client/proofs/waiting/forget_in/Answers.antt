@@ -27,6 +27,7 @@ returns-in-Some-clause-follows g c = λ k h a.
       life_is = a.life_is;
       clock_is = a.clock_is;
       next_is = a.next_is;
+      apart_is = a.apart_is;
       table = c.take_out.ensures.requests ∙ left ∙ ap (without c.args.token.now) a.table ∙ ended h (clock h) c.args.token.now;
       differ = subst TokensDiffer (ended h (clock h) c.args.token.now) (differ_filter (λ q. not (bytes_eq q.token c.args.token.now)) (pending h) a.differ);
     }
@@ -39,6 +40,7 @@ returns-in-None-clause-follows g c = λ k h a.
       life_is = a.life_is;
       clock_is = a.clock_is;
       next_is = a.next_is;
+      apart_is = a.apart_is;
       table = a.table ∙ sym (untouched (pending h) c.args.token.now none) ∙ ended h (clock h) c.args.token.now;
       differ = subst TokensDiffer (ended h (clock h) c.args.token.now) (differ_filter (λ q. not (bytes_eq q.token c.args.token.now)) (pending h) a.differ);
     }

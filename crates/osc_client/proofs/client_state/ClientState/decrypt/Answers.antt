@@ -18,27 +18,27 @@ decrypt_response-requires g c = c.sealed-sealed.ensures (as_client (context_of c
 
 pub returns-in-Err-clause-refused : goal.returns-in-Err-clause-refused
 returns-in-Err-clause-refused g c = λ h a.
-    let b = advanced _ _ h c.args.now a refl refl refl c.max-self.ensures c.drop_expired.ensures.requests in
+    let b = advanced _ _ h c.args.now a refl refl refl refl c.max-self.ensures c.drop_expired.ensures.requests in
     record {
       answer = Malformed c.in-Err.error.fault c.in-Err.error.place;
       row = c.in-Err.ensures.refused;
       decides = (refl, refl);
-      agrees = moved _ h c.args.now _ _ refl refl refl b;
+      agrees = moved _ h c.args.now _ _ refl refl refl refl b;
     }
 
 pub returns-then-not-is_response-clause-refused : goal.returns-then-not-is_response-clause-refused
 returns-then-not-is_response-clause-refused g c = λ h a.
-    let b = advanced _ _ h c.args.now a refl refl refl c.max-self.ensures c.drop_expired.ensures.requests in
+    let b = advanced _ _ h c.args.now a refl refl refl refl c.max-self.ensures c.drop_expired.ensures.requests in
     record {
       answer = NotResponse;
       row = (parts_of c.in-Ok.message, c.in-Ok.ensures.accepted, search rules);
       decides = tt;
-      agrees = moved _ h c.args.now _ _ refl refl refl b;
+      agrees = moved _ h c.args.now _ _ refl refl refl refl b;
     }
 
 pub returns-in_default-clause-refused : goal.returns-in_default-clause-refused
 returns-in_default-clause-refused g c = λ h a.
-    let b = advanced _ _ h c.args.now a refl refl refl c.max-self.ensures c.drop_expired.ensures.requests in
+    let b = advanced _ _ h c.args.now a refl refl refl refl c.max-self.ensures c.drop_expired.ensures.requests in
     let p = parts_of c.in-Ok.message in
     record {
       answer = UnknownToken;
@@ -48,12 +48,12 @@ returns-in_default-clause-refused g c = λ h a.
         not_there _ h c.args.now _ p.token b c.as_slice.ensures.value c.in_default.ensures.none,
       );
       decides = tt;
-      agrees = moved _ h c.args.now _ _ refl refl refl b;
+      agrees = moved _ h c.args.now _ _ refl refl refl refl b;
     }
 
 pub returns-in-Err-NoOscore-clause-refused : goal.returns-in-Err-NoOscore-clause-refused
 returns-in-Err-NoOscore-clause-refused g c = λ h a.
-    let b = advanced _ _ h c.args.now a refl refl refl c.max-self.ensures c.drop_expired.ensures.requests in
+    let b = advanced _ _ h c.args.now a refl refl refl refl c.max-self.ensures c.drop_expired.ensures.requests in
     let p = parts_of c.in-Ok.message in
     let (r, has, token, number, wait) = there _ c.in-Some.found _ p.token c.as_slice.ensures.value c.in-Some.ensures.found in
     record {
@@ -64,12 +64,12 @@ returns-in-Err-NoOscore-clause-refused g c = λ h a.
         (p, c.in-Ok.ensures.accepted, subst (ShowsNoResponseHead p) c.in-Err-NoOscore.field-0-is c.in-Err-NoOscore.ensures.refused),
       );
       decides = tt;
-      agrees = moved _ h c.args.now _ _ refl refl refl b;
+      agrees = moved _ h c.args.now _ _ refl refl refl refl b;
     }
 
 pub returns-in-Err-Undecodable-clause-refused : goal.returns-in-Err-Undecodable-clause-refused
 returns-in-Err-Undecodable-clause-refused g c = λ h a.
-    let b = advanced _ _ h c.args.now a refl refl refl c.max-self.ensures c.drop_expired.ensures.requests in
+    let b = advanced _ _ h c.args.now a refl refl refl refl c.max-self.ensures c.drop_expired.ensures.requests in
     let p = parts_of c.in-Ok.message in
     let (r, has, token, number, wait) = there _ c.in-Some.found _ p.token c.as_slice.ensures.value c.in-Some.ensures.found in
     record {
@@ -80,12 +80,12 @@ returns-in-Err-Undecodable-clause-refused g c = λ h a.
         (p, c.in-Ok.ensures.accepted, subst (ShowsNoResponseHead p) c.in-Err-Undecodable.field-0-is c.in-Err-Undecodable.ensures.refused),
       );
       decides = tt;
-      agrees = moved _ h c.args.now _ _ refl refl refl b;
+      agrees = moved _ h c.args.now _ _ refl refl refl refl b;
     }
 
 pub returns-in_default-decrypt_response-clause-refused : goal.returns-in_default-decrypt_response-clause-refused
 returns-in_default-decrypt_response-clause-refused g c = λ h a.
-    let b = advanced _ _ h c.args.now a refl refl refl c.max-self.ensures c.drop_expired.ensures.requests in
+    let b = advanced _ _ h c.args.now a refl refl refl refl c.max-self.ensures c.drop_expired.ensures.requests in
     let p = parts_of c.in-Ok.message in
     let (r, has, token, number, wait) = there _ c.in-Some.found _ p.token c.as_slice.ensures.value c.in-Some.ensures.found in
     let refused = in_history (λ f. RefusesTag f c.args.datagram.now) (as_client (context_of c.args.self.now.context)) (context h) (registers c.request-request.result) (observes r.wait)
@@ -96,12 +96,12 @@ returns-in_default-decrypt_response-clause-refused g c = λ h a.
       answer = BadTag;
       row = (r, answers _ h c.args.now c.args.datagram.now p r b c.in-Ok.ensures.accepted (search rules) token has, (says, refused));
       decides = tt;
-      agrees = moved _ h c.args.now _ _ refl refl refl b;
+      agrees = moved _ h c.args.now _ _ refl refl refl refl b;
     }
 
 pub returns-then-is_passed-clause-refused : goal.returns-then-is_passed-clause-refused
 returns-then-is_passed-clause-refused g c = λ h a.
-    let b = advanced _ _ h c.args.now a refl refl refl c.max-self.ensures c.drop_expired.ensures.requests in
+    let b = advanced _ _ h c.args.now a refl refl refl refl c.max-self.ensures c.drop_expired.ensures.requests in
     let p = parts_of c.in-Ok.message in
     let (r, has, token, number, wait) = there _ c.in-Some.found _ p.token c.as_slice.ensures.value c.in-Some.ensures.found in
     let own = option_map number_of c.in-Ok-read.head.number in
@@ -117,12 +117,12 @@ returns-then-is_passed-clause-refused g c = λ h a.
         ),
       );
       decides = tt;
-      agrees = moved _ h c.args.now _ _ refl refl refl b;
+      agrees = moved _ h c.args.now _ _ refl refl refl refl b;
     }
 
 pub returns-clause-answers : goal.returns-clause-answers
 returns-clause-answers g c = λ h a.
-    let b = advanced _ _ h c.args.now a refl refl refl c.max-self.ensures c.drop_expired.ensures.requests in
+    let b = advanced _ _ h c.args.now a refl refl refl refl c.max-self.ensures c.drop_expired.ensures.requests in
     let p = parts_of c.in-Ok.message in
     let (r, at, named, number, wait) = c.in-Some.ensures.found in
     let has = contains_at _ c.in-Some.found.place r at in

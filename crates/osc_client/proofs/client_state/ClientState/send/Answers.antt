@@ -53,7 +53,7 @@ returns-in-Ok-seal_request-clause-follows g c = λ h a.
     let b = c.advance.ensures.follows h a in
     let plain = plainly_sealed _ (Then h (Advance c.args.now) Advanced) (number_of c.in-Ok.numbered.0) (parts_of c.args.plain.now) _ b c.in-Ok-seal_request.ensures.sealed in
     let given = c.in-Ok.ensures.accepted (Then h (Advance c.args.now) Advanced) b plain in
-    agrees_sent _ _ _ h c.args.now (length c.args.out.now) (parts_of c.args.plain.now) _ _ _ b given.0 refl refl refl refl
+    agrees_sent _ _ _ h c.args.now (length c.args.out.now) (parts_of c.args.plain.now) _ _ _ b given.0 refl refl refl refl refl
     (c.take_out_of.ensures.requests ∙ (c.in-Ok.ensures.unused (subst TokensDiffer (sym b.table) b.differ)).0) c.push.ensures.requests c.copy_of.ensures given.1 refl c.wait_for-wait.ensures
 
 pub returns-in-Ok-seal_request-clause-number : goal.returns-in-Ok-seal_request-clause-number
