@@ -11,6 +11,7 @@ pub mod Circuit
 pub mod LinearPrograms
 pub mod MovedBits
 pub mod PackedBits
+pub mod NarrowKeys
 pub mod LaneBytes
 pub mod WordBytes
 pub mod PlaneRounds

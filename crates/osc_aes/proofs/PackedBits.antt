@@ -70,6 +70,14 @@ gather_steps =
 gather_masks : get_or (all_masks gather_steps rows) 0 [] ≡ map (λ p. 2 ^ (32 * (p % 8) + 8 * (p / 8))) (range_with_len 0 32)
 gather_masks = refl
 
+-- after one of each pair with the other
+abbrev paired_masks : List (List ℕ)
+paired_masks = pairs_masks rows 1 0x55555555
+
+-- bit i of word t is one of a word of its pair
+paired_values : map (λ t. get_or paired_masks t []) (range_with_len 0 8) ≡ map (λ t. map (λ i. 2 ^ (32 * (2 * (t / 2) + i % 2) + (2 * (i / 2) + t % 2))) (range_with_len 0 32)) (range_with_len 0 8)
+paired_values = refl
+
 -- ---- what moves, where the inputs are the 256 bits of eight words
 
 module _ (ws : List ℕ) (eight : length ws ≡ 8) (fits : (k : ℕ) → get_or ws k 0 < 2 ^ 32) where
@@ -201,6 +209,13 @@ module _ (ws : List ℕ) (eight : length ws ≡ 8) (fits : (k : ℕ) → get_or 
       let h = pairs-mean 0 0xff00ff00 (chosen 0 ws 0 4 1 5 2 6 3 7) w n (chosen-mean ws rows rows-mean 0 4 1 5 2 6 3 7) e in
       moves (chosen 0 w 0 2 4 6 1 3 5 7) back_masks (λ k p. 2 * ((k / 2 + 2 * (p / 8)) % 4) + k % 2) (λ k p. p) (chosen-mean w m h 0 2 4 6 1 3 5 7) back_values
       k p lt ltp (omega arith) ltp
+
+  -- eight words whose pairs have exchanged every second bit
+  pub paired : (w : List ℕ) → w ≡ pairs_exchanged ws 1 0x55555555
+      → (t i : ℕ) → t < 8 → i < 32 → bit_at (get_or w t 0) i ≡ bit_at (get_or ws (2 * (t / 2) + i % 2) 0) (2 * (i / 2) + t % 2)
+  paired w e t i lt lti =
+      moves w paired_masks (λ t i. 2 * (t / 2) + i % 2) (λ t i. 2 * (i / 2) + t % 2) (pairs-mean 1 0x55555555 ws w rows rows-mean e) paired_values
+      t i lt lti (omega (arith, lt)) (omega (arith, lti))
 
   -- the bits of a number that is put together of every eighth lane
   pub gather_moves : (p : ℕ) → p < 32 → bit_at (get_or (words gather_steps ws) 0 0) p ≡ bit_at (get_or ws (p % 8) 0) (8 * (p / 8))

@@ -1,8 +1,8 @@
 -- For the proofs: the state of FIPS 197 on planes of bits. planes are 8 words of 32 bits; their lane i is a byte. keys are
--- eleven round keys in planes. r counts rows or round keys, c columns, b blocks, n rounds and i lanes. w is an expanded key.
+-- eleven round keys, of which each is kept in four words. r counts rows or round keys, c columns, b blocks, n rounds and i lanes. w is an expanded key.
 use Rattle.std.specs.Prelude.{◌≡◌, ◌<◌, ℕ, ◌+◌, ◌*◌, ◌/◌, ◌%◌, ◌^◌, List, [], ◌∷◌, ◌++◌, slice_index, get_or, take, drop, bit_and, bit_xor}
 use Rattle.osc_aes.specs.Aes128.{State, block_of}
-use Rattle.osc_aes.specs.Views.{lane}
+use Rattle.osc_aes.specs.Views.{key_lane, lane}
 
 -- the lane of row r and column c of block b after n rounds, when row r is rotated right by n times r columns (own rule)
 abbrev pub lane_of : ℕ → ℕ → ℕ → ℕ → ℕ
@@ -30,11 +30,15 @@ IsKeyOf r planes w =
     (b row column : ℕ) → b < 2 → row < 4 → column < 4
     → state_in r planes b row column ≡ slice_index w (16 * r + (row + 4 * column))
 
--- the first n of the eleven keys in planes are the round keys of an expanded key (FIPS 197, 5.2)
-abbrev pub AreKeysTo : ℕ → List (List ℕ) → List ℕ → Type 0
-AreKeysTo n keys w = (r : ℕ) → r < n → IsKeyOf r (get_or keys r []) w
+-- four words keep round key r of an expanded key, rotated like the state that it is added to (FIPS 197, 5.2)
+abbrev pub KeepsKey : ℕ → List ℕ → List ℕ → Type 0
+KeepsKey r words w = (row column : ℕ) → row < 4 → column < 4 → key_lane words (lane_of r 0 row column) ≡ slice_index w (16 * r + (row + 4 * column))
 
--- all eleven keys in planes are the round keys of an expanded key (FIPS 197, 5.2)
+-- the first n of eleven times four words keep the round keys of an expanded key (FIPS 197, 5.2)
+abbrev pub AreKeysTo : ℕ → List (List ℕ) → List ℕ → Type 0
+AreKeysTo n keys w = (r : ℕ) → r < n → KeepsKey r (get_or keys r []) w
+
+-- all eleven do (FIPS 197, 5.2)
 abbrev pub AreKeysOf : List (List ℕ) → List ℕ → Type 0
 AreKeysOf = AreKeysTo 11
 

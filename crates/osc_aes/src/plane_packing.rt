@@ -4,8 +4,12 @@
 ghost use Rattle.std.specs.Prelude.{◌≡◌, ◌<◌, ◌+◌, ◌*◌, ◌/◌, ◌%◌, ℕ, slice_index};
 ghost use Rattle.std.specs.Int.{bit_at};
 ghost use Rattle.osc_aes.specs.Lanes.{block_in, exchanged, pairs_exchanged};
+ghost use Rattle.osc_aes.specs.Views.{key_lane, lane};
 
 use byteorder::{ByteOrder, LittleEndian};
+
+/// The even bits of a word, in which the first block has its lanes.
+const FIRST_BLOCK: u32 = 0x5555_5555;
 
 /// Returns the planes of two blocks, before any round.
 pub(crate) fn pack(first: &[u8; 16], second: &[u8; 16]) -> [u32; 8]
@@ -29,6 +33,23 @@ pub(crate) fn unpack(planes: [u32; 8], first: &mut [u8; 16], second: &mut [u8; 1
     LittleEndian::write_u32_into(&[w1, w3, w5, w7], second);
 }
 
+/// Returns the planes of the first block in four words: word j has plane 2j in the even bits, and plane 2j + 1 in the odd ones.
+pub(crate) fn narrowed(planes: &[u32; 8]) -> [u32; 4]
+    ensures { (i : ℕ) → i < 32 → key_lane result i ≡ lane planes.now (2 * (i / 2)) }
+{
+    let [w0, _, w2, _, w4, _, w6, _] = exchange_pairs(*planes, 1, FIRST_BLOCK);
+    [w0, w2, w4, w6]
+}
+
+/// Returns the planes that have the block of such words in the lanes of both blocks.
+#[inline(always)]
+pub(crate) fn widened(words: &[u32; 4]) -> [u32; 8]
+    ensures { (i : ℕ) → i < 32 → lane result i ≡ key_lane words.now i }
+{
+    let [a, b, c, d] = *words;
+    exchange_pairs([a, a, b, b, c, c, d, d], 1, FIRST_BLOCK)
+}
+
 /// Transposes the bits of eight words, byte by byte: bit t of a byte of word k becomes bit k of the same byte of word t.
 /// Each exchange swaps one binary digit of a word's number with one binary digit of a bit's number.
 #[inline(always)]
@@ -36,7 +57,7 @@ fn transpose(words: &[u32; 8]) -> [u32; 8]
     ensures { (t i : ℕ) → t < 8 → i < 32
         → bit_at (slice_index result t) i ≡ bit_at (slice_index words.now (i % 8)) (8 * (i / 8) + t) }
 {
-    let [w0, w1, w2, w3, w4, w5, w6, w7] = exchange_pairs(*words, 1, 0x5555_5555);
+    let [w0, w1, w2, w3, w4, w5, w6, w7] = exchange_pairs(*words, 1, FIRST_BLOCK);
     let words = [w0, w2, w1, w3, w4, w6, w5, w7];
     let [w0, w2, w1, w3, w4, w6, w5, w7] = exchange_pairs(words, 2, 0x3333_3333);
     let words = [w0, w4, w1, w5, w2, w6, w3, w7];

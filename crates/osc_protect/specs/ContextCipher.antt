@@ -1,10 +1,22 @@
 -- How the code is seen: the key of a context's cipher, and which cipher it is.
-use Rattle.std.specs.Prelude.{ℕ, List, Bool, true, false}
+use Rattle.std.specs.Prelude.{◌≡◌, ℕ, List, Bool, true, false, length}
 use Rattle.osc_aes.specs.Keyed.{key_of, plane_key_of}
 use Rattle.osc_protect.specs.declared.context_cipher.ContextCipher.{ContextCipher}
 use Rattle.osc_protect.specs.declared.context_cipher.ContextCipher.TheVariants.{ByTables, ByTablesOf, ConstantTime, ConstantTimeOf}
 use Rattle.osc_protect.specs.declared.context_cipher.KeptSchedule.{KeptSchedule}
 use Rattle.osc_protect.specs.declared.context_cipher.KeptSchedule.TheVariants.{Tables, Planes}
+use Rattle.osc_protect.specs.declared.context_cipher.Schedule.{Schedule}
+use Rattle.osc_protect.specs.declared.context_cipher.Schedule.TheVariants as schedules
+
+-- the key of a schedule (how the code is seen)
+abbrev pub schedule_key : Schedule → List ℕ
+schedule_key (schedules.Tables schedule) = key_of schedule.now
+schedule_key (schedules.Planes schedule) = plane_key_of schedule.now
+
+-- it has 16 bytes (FIPS 197, 5)
+abbrev pub schedule_key_length : (schedule : Schedule) → length (schedule_key schedule) ≡ 16
+schedule_key_length (schedules.Tables schedule) = schedule.now.key_len
+schedule_key_length (schedules.Planes schedule) = schedule.now.key_len
 
 -- the key of the cipher (how the code is seen)
 abbrev pub key_under : ContextCipher → List ℕ

@@ -2,10 +2,37 @@
 
 ghost use Rattle.std.specs.Prelude.{◌≡◌, ◌+◌, ◌++◌, ◌≤◌, ℕ, List, length, take, drop, IfOk, IsOk, OnOk, OnErr};
 ghost use Rattle.osc_ccm.specs.Ccm.{ccm, tag_length};
-ghost use Rattle.osc_protect.specs.ContextCipher.{is_in_constant_time, key_under, keeps_constant_time, kept_key};
+ghost use Rattle.osc_protect.specs.ContextCipher.{is_in_constant_time, key_under, keeps_constant_time, kept_key, schedule_key, schedule_key_length};
 
-use osc_aes::{PlaneAes, TableAes};
+use osc_aes::{BlockCipher, PlaneAes, TableAes};
 use osc_ccm::{Key, Nonce, OpenError, SealError, open, seal};
+
+/// A schedule of either cipher. AES-CCM runs over it, so that its code is there once for both.
+#[derive(Clone, Copy)]
+enum Schedule<'a> {
+    Tables(&'a TableAes),
+    Planes(&'a PlaneAes),
+}
+
+impl BlockCipher for Schedule<'_> {
+    ghost cipher_key = { λ schedule. schedule_key schedule };
+
+    fn encrypt(&self, block: &mut [u8; 16]) {
+        match self {
+            Schedule::Tables(schedule) => schedule.encrypt(block),
+            Schedule::Planes(schedule) => schedule.encrypt(block),
+        }
+    }
+
+    fn encrypt_two(&self, first: &mut [u8; 16], second: &mut [u8; 16]) {
+        match self {
+            Schedule::Tables(schedule) => schedule.encrypt_two(first, second),
+            Schedule::Planes(schedule) => schedule.encrypt_two(first, second),
+        }
+    }
+
+    ghost key_len = { λ schedule. schedule_key_length schedule };
+}
 
 /// AES-CCM under one key of a context: over a schedule that is kept, or over one that each call makes of the key. Each call checks once
 /// which cipher this is.
@@ -47,21 +74,22 @@ impl<'a> ContextCipher<'a> {
     {
         match self {
             ContextCipher::ByTables(schedule) => seal(
-                schedule,
+                &Schedule::Tables(schedule),
                 nonce,
                 additional_data,
                 payload,
                 len,
             ),
             ContextCipher::ConstantTime(schedule) => seal(
-                schedule,
+                &Schedule::Planes(schedule),
                 nonce,
                 additional_data,
                 payload,
                 len,
             ),
             ContextCipher::ByTablesOf(key) => {
-                seal(&TableAes::new(key), nonce, additional_data, payload, len)
+                let schedule = TableAes::new(key);
+                seal(&Schedule::Tables(&schedule), nonce, additional_data, payload, len)
             }
             ContextCipher::ConstantTimeOf(key) => {
                 seal_in_planes(key, nonce, additional_data, payload, len)
@@ -86,15 +114,21 @@ impl<'a> ContextCipher<'a> {
         ensures unchanged { OnErr result (payload.new ≡ payload.old) }
     {
         match self {
-            ContextCipher::ByTables(schedule) => open(schedule, nonce, additional_data, payload),
+            ContextCipher::ByTables(schedule) => open(
+                &Schedule::Tables(schedule),
+                nonce,
+                additional_data,
+                payload,
+            ),
             ContextCipher::ConstantTime(schedule) => open(
-                schedule,
+                &Schedule::Planes(schedule),
                 nonce,
                 additional_data,
                 payload,
             ),
             ContextCipher::ByTablesOf(key) => {
-                open(&TableAes::new(key), nonce, additional_data, payload)
+                let schedule = TableAes::new(key);
+                open(&Schedule::Tables(&schedule), nonce, additional_data, payload)
             }
             ContextCipher::ConstantTimeOf(key) => {
                 open_in_planes(key, nonce, additional_data, payload)
@@ -120,7 +154,8 @@ fn seal_in_planes(
         ≡ ccm key.now nonce.now additional_data.now (take len payload.old) ++ drop (len + tag_length) payload.old) }
     ensures accepts { len ≤ 65535 → len + tag_length ≤ length payload.old → IsOk result }
 {
-    seal(&PlaneAes::new(key), nonce, additional_data, payload, len)
+    let schedule = PlaneAes::new(key);
+    seal(&Schedule::Planes(&schedule), nonce, additional_data, payload, len)
 }
 
 /// Opens so under a key whose planes are made here. It stays a separate call, as `seal_in_planes` does.
@@ -139,7 +174,8 @@ fn open_in_planes(
         → payload.old ≡ ccm key.now nonce.now additional_data.now m → IsOk result }
     ensures unchanged { OnErr result (payload.new ≡ payload.old) }
 {
-    open(&PlaneAes::new(key), nonce, additional_data, payload)
+    let schedule = PlaneAes::new(key);
+    open(&Schedule::Planes(&schedule), nonce, additional_data, payload)
 }
 
 /// The schedule of one key of a context, kept from message to message.
