@@ -1,10 +1,10 @@
-//! Calls of osc_aes, osc_ccm and osc_hkdf. Each call of a cipher is made with all three ciphers.
+//! Calls of osc_aes, osc_ccm and osc_hkdf. Each call of a cipher is made with all three ciphers, and with one that is widened.
 
 ghost use Rattle.std.specs.Prelude.{◌≤◌, length};
 
 use crate::answer::Answer;
 use crate::fields::Fields;
-use osc_aes::{BlockCipher, PlainAes, PlaneAes, TableAes};
+use osc_aes::{BlockCipher, NarrowPlanes, PlainAes, PlaneAes, TableAes};
 use osc_ccm::{MOST_AAD, open, seal};
 use osc_hkdf::{expand, extract, hmac_sha256};
 
@@ -73,7 +73,7 @@ fn with<C: BlockCipher>(cipher: &C, verb: &str, fields: &Fields<'_>, answer: &mu
     }
 }
 
-/// Makes a call of osc_aes or osc_ccm with each of the three ciphers.
+/// Makes a call of osc_aes or osc_ccm with each of the three ciphers, and with one whose schedule was kept.
 pub(crate) fn with_all(verb: &str, fields: &Fields<'_>, answer: &mut Answer) {
     let key = fields.array::<16>(0);
     with(&PlainAes::new(&key), verb, fields, answer);
@@ -81,6 +81,8 @@ pub(crate) fn with_all(verb: &str, fields: &Fields<'_>, answer: &mut Answer) {
     with(&TableAes::new(&key), verb, fields, answer);
     answer.again();
     with(&PlaneAes::new(&key), verb, fields, answer);
+    answer.again();
+    with(&NarrowPlanes::new(&key).widened(), verb, fields, answer);
 }
 
 /// Computes the code of a message that comes in three parts.

@@ -1,9 +1,13 @@
 -- Round keys that are kept in four words.
-use Rattle.std.proofs.Common.{◌≡◌, ℕ, zero, suc, ◌+◌, ◌*◌, ◌/◌, ◌%◌, ◌^◌, ◌<◌, List, [], ◌∷◌, length, get_or, refl, ap, ap₂, ◌∙◌, arith}
+use Rattle.std.proofs.Common.{◌≡◌, ℕ, zero, suc, ◌+◌, ◌*◌, ◌/◌, ◌%◌, ◌^◌, ◌<◌, List, [], ◌∷◌, length, get_or, refl, ap, ap₂, ◌∙◌, arith, get_or-take, get_or-set_other, get_or-set_same, set, sym, subst, inl, inr}
+use Rattle.std.proofs.lemmas.Bool.{cases_eq}
+use Rattle.std.proofs.lemmas.List.FromFn.{fill_by_all}
 use Rattle.std.specs.Int.{bit_at}
 use Rattle.osc_aes.specs.SubstitutionBox.{from_bits}
-use Rattle.osc_aes.specs.Views.{key_lane, lane}
-use Rattle.osc_aes.specs.Lanes.{IsKeyOf, KeepsKey, lane_of, pairs_exchanged}
+use Rattle.osc_aes.specs.Aes128.{expanded_key}
+use Rattle.osc_aes.specs.Views.{key_lane, key_of_narrow, lane}
+use Rattle.osc_aes.specs.Lanes.{IsKeyOf, KeepKeys, KeepsKey, lane_of, pairs_exchanged}
+use Rattle.osc_aes.proofs.Lengths.{take-expanded_key}
 use Rattle.osc_aes.proofs.PackedBits.{paired}
 
 -- numbers of the same bits
@@ -83,8 +87,34 @@ wide_key r words planes w wide held b row column few ltr ltc =
 even_lane : (row x : ℕ) → 2 * ((8 * row + (2 * x + 0)) / 2) ≡ 8 * row + (2 * x + 0)
 even_lane row x = omega arith
 
--- a byte of a round key in the words that keep it
-pub narrow_byte : (n row column byte : ℕ) (words planes : List ℕ) → ((i : ℕ) → i < 32 → key_lane words i ≡ lane planes (2 * (i / 2))) → row < 4
-    → lane planes (lane_of n 0 row column) ≡ byte → key_lane words (lane_of n 0 row column) ≡ byte
-narrow_byte n row column byte words planes narrow ltr is =
-    narrow (lane_of n 0 row column) (lane_seat 0 (column + n * row) row (omega arith) ltr) ∙ ap (lane planes) (even_lane row ((column + n * row) % 4)) ∙ is
+-- a round key that four words keep, by its planes
+pub narrow_key : (r : ℕ) (words planes w : List ℕ) → ((i : ℕ) → i < 32 → key_lane words i ≡ lane planes (2 * (i / 2))) → IsKeyOf r planes w → KeepsKey r words w
+narrow_key r words planes w narrow held row column ltr ltc =
+    narrow (lane_of r 0 row column) (lane_seat 0 (column + r * row) row (omega arith) ltr)
+    ∙ ap (lane planes) (even_lane row ((column + r * row) % 4)) ∙ held 0 row column (omega arith) ltr ltc
+
+-- what holds of each of a list's first elements holds of one more
+pub set_more : (P : ℕ → List ℕ → Type 0) (n : ℕ) (keys : List (List ℕ)) (x : List ℕ) → n < length keys → P n x → ((r : ℕ) → r < n → P r (get_or keys r []))
+    → (r : ℕ) → r < n + 1 → P r (get_or (set keys n x) r [])
+set_more P n keys x room holds before r lt = elim (cases_eq r n) [
+  | inl same ↦
+      subst (λ (m : ℕ). P m (get_or (set keys n x) m [])) (sym same) (subst (P n) (sym (get_or-set_same keys n x [] room)) holds)
+  | inr other ↦ subst (P r) (sym (get_or-set_other keys n r x [] other)) (before r (omega (arith, lt, other)))
+]
+
+-- the key of round keys that four words keep each
+pub narrow_known : (keys : List (List ℕ)) (key : List ℕ) → length key ≡ 16 → KeepKeys keys (expanded_key key) → key_of_narrow keys ≡ key
+unfolding key_of_narrow
+narrow_known keys key long held =
+    sym (fill_by_all (λ n. key_lane (get_or keys 0 []) (8 * (n % 4) + 2 * (n / 4))) key 16 0 long (λ n lt.
+    let back : 16 * 0 + (n % 4 + 4 * (n / 4)) ≡ n = omega arith in
+    let seat : lane_of 0 0 (n % 4) (n / 4) ≡ 8 * (n % 4) + 2 * (n / 4) = omega (arith, lt) in
+    sym (ap (key_lane (get_or keys 0 [])) (sym seat) ∙ held 0 (omega arith) (n % 4) (n / 4) (omega arith) (omega (arith, lt))
+    ∙ ap (λ (j : ℕ). get_or (expanded_key key) j 0) back
+    ∙ sym (get_or-take 16 (expanded_key key) n 0 lt) ∙ ap (λ (x : List ℕ). get_or x n 0) (take-expanded_key (expanded_key key) key long refl))))
+
+-- they keep the key that they hold
+pub own_narrow : (keys : List (List ℕ)) (key : List ℕ) → length key ≡ 16 → KeepKeys keys (expanded_key key) → KeepKeys keys (expanded_key (key_of_narrow keys))
+own_narrow keys key long held =
+    let P : List ℕ → Type 0 = λ k. KeepKeys keys (expanded_key k) in
+    subst P (sym (narrow_known keys key long held)) held

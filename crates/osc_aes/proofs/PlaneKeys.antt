@@ -1,15 +1,14 @@
 -- Round keys in planes, and words substituted in planes.
-use Rattle.std.proofs.Common.{◌≡◌, ℕ, ◌+◌, ◌/◌, ◌*◌, ◌%◌, ◌<◌, ◌≤◌, List, [], ◌∷◌, length, drop, get_or, set, get_or-take, get_or-drop, get_or-set_other, get_or-set_same, length-drop, inl, inr, refl, ap, ap₂, ◌∙◌, sym, arith}
+use Rattle.std.proofs.Common.{◌≡◌, ℕ, zero, suc, ◌+◌, ◌/◌, ◌*◌, ◌%◌, ◌<◌, ◌≤◌, List, [], ◌∷◌, length, drop, get_or, set, get_or-take, get_or-drop, get_or-set_other, get_or-set_same, length-drop, inl, inr, refl, ap, ap₂, ◌∙◌, sym, arith}
 use Rattle.std.proofs.lemmas.Bool.{cases_eq}
 use Rattle.std.proofs.lemmas.List.{length-take-le}
 use Rattle.std.proofs.lemmas.List.FromFn.{fill_by_all}
 use Rattle.osc_aes.specs.SubstitutionBox.{substitute}
 use Rattle.osc_aes.specs.Aes128.{added_word, expanded_key, sub_word, word_at, xor_word}
-use Rattle.osc_aes.specs.Views.{key_lane, lane}
-use Rattle.osc_aes.specs.Lanes.{AreKeysTo, block_at, block_in, lane_of, state_in}
+use Rattle.osc_aes.specs.Views.{lane}
+use Rattle.osc_aes.specs.Lanes.{AreKeysTo, block_at, block_in, state_in}
 use Rattle.osc_aes.proofs.Keys.{added_word-within, expanded_key-word}
 use Rattle.osc_aes.proofs.Lengths.{length-key_words, take-expanded_key}
-use Rattle.osc_aes.proofs.NarrowKeys.{narrow_byte}
 use Rattle.osc_aes.proofs.PlaneRounds.{state-known}
 
 -- ---- words substituted in planes
@@ -134,23 +133,24 @@ turned_block n k turned planes b packed moved row column ltr ltc =
     ∙ ap₂ (λ (r c : ℕ). get_or k (r + 4 * ((c + 3 * (n * r)) % 4)) 0) (at row seat ltr) (over row seat ltr)
     ∙ ap (λ (c : ℕ). get_or k (row + 4 * c) 0) (turned_again y column ltc)
 
--- and in the words that keep it
-pub turned_key : (n : ℕ) (k turned planes words : List ℕ) → block_in 0 planes 0 ≡ turned → ((i : ℕ) → i < 32 → key_lane words i ≡ lane planes (2 * (i / 2)))
+-- and in both
+pub turned_key : (n : ℕ) (k turned planes : List ℕ) → block_in 0 planes 0 ≡ turned → block_in 0 planes 1 ≡ turned
     → ((m : ℕ) → m < 16 → get_or turned m 0 ≡ get_or k (m % 4 + 4 * ((m / 4 + 3 * (n * (m % 4))) % 4)) 0)
-    → (row column : ℕ) → row < 4 → column < 4 → key_lane words (lane_of n 0 row column) ≡ get_or k (row + 4 * column) 0
-turned_key n k turned planes words first narrow moved row column ltr ltc =
-    narrow_byte n row column (get_or k (row + 4 * column) 0) words planes narrow ltr (turned_block n k turned planes 0 first moved row column ltr ltc)
+    → (b row column : ℕ) → b < 2 → row < 4 → column < 4 → state_in n planes b row column ≡ get_or k (row + 4 * column) 0
+turned_key n k turned planes first second moved zero row column few = turned_block n k turned planes 0 first moved row column
+turned_key n k turned planes first second moved (suc zero) row column few = turned_block n k turned planes 1 second moved row column
+turned_key n k turned planes first second moved (suc (suc b)) row column few = absurd (omega arith)
 
 -- one more of them
-pub one_more_key : (n : ℕ) (keys : List (List ℕ)) (w k words : List ℕ) → n < length keys → k ≡ block_at w n
-    → ((row column : ℕ) → row < 4 → column < 4 → key_lane words (lane_of n 0 row column) ≡ get_or k (row + 4 * column) 0)
-    → AreKeysTo n keys w → AreKeysTo (n + 1) (set keys n words) w
-one_more_key n keys w k words room e held before r lt row column ltr ltc = elim (cases_eq r n) [
+pub one_more_key : (n : ℕ) (keys : List (List ℕ)) (w k planes : List ℕ) → n < length keys → k ≡ block_at w n
+    → ((b row column : ℕ) → b < 2 → row < 4 → column < 4 → state_in n planes b row column ≡ get_or k (row + 4 * column) 0)
+    → AreKeysTo n keys w → AreKeysTo (n + 1) (set keys n planes) w
+one_more_key n keys w k planes room e held before r lt b row column few ltr ltc = elim (cases_eq r n) [
   | inl same ↦
-      ap₂ (λ (x : List ℕ) (m : ℕ). key_lane x (lane_of m 0 row column)) (ap (λ (j : ℕ). get_or (set keys n words) j []) same ∙ get_or-set_same keys n words [] room) same
-      ∙ held row column ltr ltc ∙ ap (λ (x : List ℕ). get_or x (row + 4 * column) 0) e ∙ get_or-block w n (row + 4 * column) (omega (arith, ltr, ltc))
+      ap₂ (λ (x : List ℕ) (m : ℕ). state_in m x b row column) (ap (λ (j : ℕ). get_or (set keys n planes) j []) same ∙ get_or-set_same keys n planes [] room) same
+      ∙ held b row column few ltr ltc ∙ ap (λ (x : List ℕ). get_or x (row + 4 * column) 0) e ∙ get_or-block w n (row + 4 * column) (omega (arith, ltr, ltc))
       ∙ ap (λ (j : ℕ). get_or w (16 * j + (row + 4 * column)) 0) (sym same)
   | inr other ↦
-      ap (λ (x : List ℕ). key_lane x (lane_of r 0 row column)) (get_or-set_other keys n r words [] other)
-      ∙ before r (omega (arith, lt, other)) row column ltr ltc
+      ap (λ (x : List ℕ). state_in r x b row column) (get_or-set_other keys n r planes [] other)
+      ∙ before r (omega (arith, lt, other)) b row column few ltr ltc
 ]

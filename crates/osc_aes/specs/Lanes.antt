@@ -1,5 +1,5 @@
 -- For the proofs: the state of FIPS 197 on planes of bits. planes are 8 words of 32 bits; their lane i is a byte. keys are
--- eleven round keys, of which each is kept in four words. r counts rows or round keys, c columns, b blocks, n rounds and i lanes. w is an expanded key.
+-- eleven round keys in planes. r counts rows or round keys, c columns, b blocks, n rounds and i lanes. w is an expanded key.
 use Rattle.std.specs.Prelude.{◌≡◌, ◌<◌, ℕ, ◌+◌, ◌*◌, ◌/◌, ◌%◌, ◌^◌, List, [], ◌∷◌, ◌++◌, slice_index, get_or, take, drop, bit_and, bit_xor}
 use Rattle.osc_aes.specs.Aes128.{State, block_of}
 use Rattle.osc_aes.specs.Views.{key_lane, lane}
@@ -30,17 +30,21 @@ IsKeyOf r planes w =
     (b row column : ℕ) → b < 2 → row < 4 → column < 4
     → state_in r planes b row column ≡ slice_index w (16 * r + (row + 4 * column))
 
+-- the first n of the eleven keys in planes are the round keys of an expanded key (FIPS 197, 5.2)
+abbrev pub AreKeysTo : ℕ → List (List ℕ) → List ℕ → Type 0
+AreKeysTo n keys w = (r : ℕ) → r < n → IsKeyOf r (get_or keys r []) w
+
+-- all eleven keys in planes are the round keys of an expanded key (FIPS 197, 5.2)
+abbrev pub AreKeysOf : List (List ℕ) → List ℕ → Type 0
+AreKeysOf = AreKeysTo 11
+
 -- four words keep round key r of an expanded key, rotated like the state that it is added to (FIPS 197, 5.2)
 abbrev pub KeepsKey : ℕ → List ℕ → List ℕ → Type 0
 KeepsKey r words w = (row column : ℕ) → row < 4 → column < 4 → key_lane words (lane_of r 0 row column) ≡ slice_index w (16 * r + (row + 4 * column))
 
--- the first n of eleven times four words keep the round keys of an expanded key (FIPS 197, 5.2)
-abbrev pub AreKeysTo : ℕ → List (List ℕ) → List ℕ → Type 0
-AreKeysTo n keys w = (r : ℕ) → r < n → KeepsKey r (get_or keys r []) w
-
--- all eleven do (FIPS 197, 5.2)
-abbrev pub AreKeysOf : List (List ℕ) → List ℕ → Type 0
-AreKeysOf = AreKeysTo 11
+-- eleven times four words keep the round keys of an expanded key (FIPS 197, 5.2)
+abbrev pub KeepKeys : List (List ℕ) → List ℕ → Type 0
+KeepKeys keys w = (r : ℕ) → r < 11 → KeepsKey r (get_or keys r []) w
 
 -- x and y after the bits of y under a mask have swapped with the bits of x that are k places higher (own rule)
 abbrev pub exchanged : ℕ → ℕ → ℕ → ℕ → List ℕ

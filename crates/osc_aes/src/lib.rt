@@ -10,6 +10,7 @@
 mod block_cipher;
 mod key_schedule;
 mod laws;
+mod narrow_planes;
 mod plain;
 mod plane_keys;
 mod plane_packing;
@@ -22,6 +23,7 @@ mod table;
 
 pub use block_cipher::BlockCipher;
 pub use laws::{encrypted_length, product_with_inverse};
+pub use narrow_planes::NarrowPlanes;
 pub use plain::PlainAes;
 pub use planes::PlaneAes;
 pub use table::TableAes;

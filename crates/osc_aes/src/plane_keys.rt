@@ -2,45 +2,46 @@
 
 ghost use Rattle.std.specs.Prelude.{◌≡◌, ◌<◌, ◌+◌, ◌*◌, ℕ, List, length, slice_index};
 ghost use Rattle.osc_aes.specs.Aes128.{added_word, expanded_key, sub_word};
-ghost use Rattle.osc_aes.specs.Views.{key_lane, lane};
-ghost use Rattle.osc_aes.specs.Lanes.{AreKeysOf, block_at, lane_of};
+ghost use Rattle.osc_aes.specs.Views.{lane};
+ghost use Rattle.osc_aes.specs.Lanes.{AreKeysOf, block_at, state_in};
 
 use crate::key_schedule::{round_constant, word_at, xor_word};
-use crate::plane_packing::{narrowed, pack};
+use crate::plane_packing::pack;
 use crate::plane_substitution::sub_bytes;
 use byteorder::{ByteOrder, LittleEndian};
 
 /// Lanes 0, 8, 16 and 24, which hold the bytes of a word.
 const LANES: u32 = 0x0101_0101;
 
-/// Returns round keys 0 to 10 of a key, each narrowed to four words and rotated like the state that it is added to.
+/// Returns round keys 0 to 10 of a key, each in the lanes of both blocks and rotated like the state that it is added to.
 /// It isn't inlined, and neither is the call that runs the rounds.
 #[inline(never)]
-pub(crate) fn round_keys(key: &[u8; 16]) -> [[u32; 4]; 11]
+pub(crate) fn round_keys(key: &[u8; 16]) -> [[u32; 8]; 11]
     ensures { AreKeysOf result (expanded_key key.now) }
 {
-    let mut keys = [[0u32; 4]; 11];
-    keys[0] = turned_words(key, 0);
+    let mut keys = [[0u32; 8]; 11];
+    keys[0] = turned_planes(key, 0);
     let mut round_key = *key;
     for round in 0..10 {
         let next = next_round_key(&round_key, round);
-        keys[round + 1] = turned_words(&next, round + 1);
+        keys[round + 1] = turned_planes(&next, round + 1);
         round_key = next;
     }
     keys
 }
 
-/// Puts a round key into four words, with row r rotated right by `round` times r columns.
-fn turned_words(round_key: &[u8; 16], round: usize) -> [u32; 4]
+/// Puts a round key into the lanes of both blocks, with row r rotated right by `round` times r columns.
+fn turned_planes(round_key: &[u8; 16], round: usize) -> [u32; 8]
     requires { round < 11 }
-    ensures { (row column : ℕ) → row < 4 → column < 4 → key_lane result (lane_of round 0 row column) ≡ slice_index round_key.now (row + 4 * column) }
+    ensures { (b row column : ℕ) → b < 2 → row < 4 → column < 4
+        → state_in round result b row column ≡ slice_index round_key.now (row + 4 * column) }
 {
     let mut turned = [0u8; 16];
     for n in 0..16 {
         let row = n % 4;
         turned[n] = round_key[row + 4 * ((n / 4 + 3 * (round * row)) % 4)];
     }
-    narrowed(&pack(&turned, &turned))
+    pack(&turned, &turned)
 }
 
 /// Computes round key `round + 1` from the one before it, word by word.

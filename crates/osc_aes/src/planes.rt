@@ -14,15 +14,15 @@ ghost use Rattle.osc_aes.specs.Lanes.{AreKeysOf, IsKeyOf, block_in};
 
 use crate::block_cipher::BlockCipher;
 use crate::plane_keys::round_keys;
-use crate::plane_packing::{pack, unpack, widened};
+use crate::plane_packing::{pack, unpack};
 use crate::plane_steps::{add_planes, mix_columns};
 use crate::plane_substitution::sub_bytes;
 
 /// AES-128 under one key, with no look-up and no branch that depends on a bit of the key or of a block. It keeps the
-/// eleven round keys in planes, each for one block: 176 bytes.
+/// eleven round keys in planes, each for both blocks: 352 bytes.
 #[derive(Drop)]
 pub struct PlaneAes {
-    keys: [[u32; 4]; 11],
+    pub(crate) keys: [[u32; 8]; 11],
     ghost expanded: { AreKeysOf keys (expanded_key (key_of_planes keys)) },
     ghost key_len: { length (key_of_planes keys) ≡ 16 },
 }
@@ -57,7 +57,7 @@ impl BlockCipher for PlaneAes {
 /// Encrypts two blocks, each in place. It is never inlined, so that code that uses tables sets aside no room for its
 /// planes.
 #[inline(never)]
-fn encrypt_both(keys: &[[u32; 4]; 11], first: &mut [u8; 16], second: &mut [u8; 16])
+fn encrypt_both(keys: &[[u32; 8]; 11], first: &mut [u8; 16], second: &mut [u8; 16])
     ensures first { (key : List ℕ) → AreKeysOf keys.now (expanded_key key) → first.new ≡ aes128 key first.old }
     ensures second { (key : List ℕ) → AreKeysOf keys.now (expanded_key key) → second.new ≡ aes128 key second.old }
 {
@@ -66,31 +66,31 @@ fn encrypt_both(keys: &[[u32; 4]; 11], first: &mut [u8; 16], second: &mut [u8; 1
 }
 
 /// Returns the planes after all rounds.
-fn cipher(planes: [u32; 8], keys: &[[u32; 4]; 11]) -> [u32; 8]
+fn cipher(planes: [u32; 8], keys: &[[u32; 8]; 11]) -> [u32; 8]
     ensures { (w : List ℕ) → AreKeysOf keys.now w → (b : ℕ) → b < 2
         → block_in 10 result b ≡ cipher w (block_in 0 planes b) }
 {
-    let mut state = add_planes(planes, widened(&keys[0]));
+    let mut state = add_planes(planes, keys[0]);
     for four in 0..2 {
         let next = four_rounds(state, keys, 4 * four);
         state = next;
     }
-    let mixed = round(state, widened(&keys[9]), 1);
-    add_planes(sub_bytes(mixed), widened(&keys[10]))
+    let mixed = round(state, keys[9], 1);
+    add_planes(sub_bytes(mixed), keys[10])
 }
 
 /// Runs four rounds after the first `done`. They are written out, because the rows are rotated differently in each.
 #[inline(always)]
-fn four_rounds(planes: [u32; 8], keys: &[[u32; 4]; 11], done: usize) -> [u32; 8]
+fn four_rounds(planes: [u32; 8], keys: &[[u32; 8]; 11], done: usize) -> [u32; 8]
     requires fours { done % 4 ≡ 0 }
     requires few { done < 7 }
     ensures { (w block : List ℕ) → AreKeysOf keys.now w → (b : ℕ) → b < 2
         → block_in done planes b ≡ after_rounds w block done → block_in (done + 4) result b ≡ after_rounds w block (done + 4) }
 {
-    let one = round(planes, widened(&keys[done + 1]), 1);
-    let two = round(one, widened(&keys[done + 2]), 2);
-    let three = round(two, widened(&keys[done + 3]), 3);
-    round(three, widened(&keys[done + 4]), 0)
+    let one = round(planes, keys[done + 1], 1);
+    let two = round(one, keys[done + 2], 2);
+    let three = round(two, keys[done + 3], 3);
+    round(three, keys[done + 4], 0)
 }
 
 /// Runs a round with a key. `turned` is how many rounds are done after it, modulo 4.

@@ -1,10 +1,11 @@
 //! The cipher of a context's keys: in constant time, or by tables if the context asks for that.
 
 ghost use Rattle.std.specs.Prelude.{◌≡◌, ◌+◌, ◌++◌, ◌≤◌, ℕ, List, length, take, drop, IfOk, IsOk, OnOk, OnErr};
+ghost use Rattle.osc_aes.specs.Keyed.{narrow_key_of};
 ghost use Rattle.osc_ccm.specs.Ccm.{ccm, tag_length};
 ghost use Rattle.osc_protect.specs.ContextCipher.{is_in_constant_time, key_under, keeps_constant_time, kept_key, schedule_key, schedule_key_length};
 
-use osc_aes::{BlockCipher, PlaneAes, TableAes};
+use osc_aes::{BlockCipher, NarrowPlanes, PlaneAes, TableAes};
 use osc_ccm::{Key, Nonce, OpenError, SealError, open, seal};
 
 /// A schedule of either cipher. AES-CCM runs over it, so that its code is there once for both.
@@ -34,12 +35,11 @@ impl BlockCipher for Schedule<'_> {
     ghost key_len = { λ schedule. schedule_key_length schedule };
 }
 
-/// AES-CCM under one key of a context: over a schedule that is kept, or over one that each call makes of the key. Each call checks once
-/// which cipher this is.
+/// AES-CCM under one key of a context: over a schedule that is kept, or over one that each call makes of the key.
 #[derive(Clone, Copy)]
 pub(crate) enum ContextCipher<'a> {
     ByTables(&'a TableAes),
-    ConstantTime(&'a PlaneAes),
+    ConstantTime(&'a NarrowPlanes),
     ByTablesOf(&'a Key),
     ConstantTimeOf(&'a Key),
 }
@@ -80,8 +80,8 @@ impl<'a> ContextCipher<'a> {
                 payload,
                 len,
             ),
-            ContextCipher::ConstantTime(schedule) => seal(
-                &Schedule::Planes(schedule),
+            ContextCipher::ConstantTime(schedule) => seal_in_kept_planes(
+                schedule,
                 nonce,
                 additional_data,
                 payload,
@@ -89,7 +89,13 @@ impl<'a> ContextCipher<'a> {
             ),
             ContextCipher::ByTablesOf(key) => {
                 let schedule = TableAes::new(key);
-                seal(&Schedule::Tables(&schedule), nonce, additional_data, payload, len)
+                seal(
+                    &Schedule::Tables(&schedule),
+                    nonce,
+                    additional_data,
+                    payload,
+                    len,
+                )
             }
             ContextCipher::ConstantTimeOf(key) => {
                 seal_in_planes(key, nonce, additional_data, payload, len)
@@ -120,15 +126,17 @@ impl<'a> ContextCipher<'a> {
                 additional_data,
                 payload,
             ),
-            ContextCipher::ConstantTime(schedule) => open(
-                &Schedule::Planes(schedule),
-                nonce,
-                additional_data,
-                payload,
-            ),
+            ContextCipher::ConstantTime(schedule) => {
+                open_in_kept_planes(schedule, nonce, additional_data, payload)
+            }
             ContextCipher::ByTablesOf(key) => {
                 let schedule = TableAes::new(key);
-                open(&Schedule::Tables(&schedule), nonce, additional_data, payload)
+                open(
+                    &Schedule::Tables(&schedule),
+                    nonce,
+                    additional_data,
+                    payload,
+                )
             }
             ContextCipher::ConstantTimeOf(key) => {
                 open_in_planes(key, nonce, additional_data, payload)
@@ -154,8 +162,14 @@ fn seal_in_planes(
         ≡ ccm key.now nonce.now additional_data.now (take len payload.old) ++ drop (len + tag_length) payload.old) }
     ensures accepts { len ≤ 65535 → len + tag_length ≤ length payload.old → IsOk result }
 {
-    let schedule = PlaneAes::new(key);
-    seal(&Schedule::Planes(&schedule), nonce, additional_data, payload, len)
+    let planes = PlaneAes::new(key);
+    seal(
+        &Schedule::Planes(&planes),
+        nonce,
+        additional_data,
+        payload,
+        len,
+    )
 }
 
 /// Opens so under a key whose planes are made here. It stays a separate call, as `seal_in_planes` does.
@@ -174,15 +188,62 @@ fn open_in_planes(
         → payload.old ≡ ccm key.now nonce.now additional_data.now m → IsOk result }
     ensures unchanged { OnErr result (payload.new ≡ payload.old) }
 {
-    let schedule = PlaneAes::new(key);
-    open(&Schedule::Planes(&schedule), nonce, additional_data, payload)
+    let planes = PlaneAes::new(key);
+    open(&Schedule::Planes(&planes), nonce, additional_data, payload)
+}
+
+/// Seals so by planes that are kept, which are widened here. It stays a separate call, as `seal_in_planes` does.
+#[inline(never)]
+fn seal_in_kept_planes(
+    schedule: &NarrowPlanes,
+    nonce: &Nonce,
+    additional_data: &[u8],
+    payload: &mut [u8],
+    len: usize,
+) -> Result<usize, SealError>
+    requires additional_data { length additional_data.now ≤ 65279 }
+    requires plaintext { len ≤ length payload.old }
+    ensures length { IfOk result (λ sealed_len. sealed_len ≡ len + tag_length) }
+    ensures sealed { OnOk result (payload.new
+        ≡ ccm (narrow_key_of schedule.now) nonce.now additional_data.now (take len payload.old) ++ drop (len + tag_length) payload.old) }
+    ensures accepts { len ≤ 65535 → len + tag_length ≤ length payload.old → IsOk result }
+{
+    let widened = schedule.widened();
+    seal(
+        &Schedule::Planes(&widened),
+        nonce,
+        additional_data,
+        payload,
+        len,
+    )
+}
+
+/// Opens so by planes that are kept, which are widened here. It stays a separate call, as `seal_in_planes` does.
+#[inline(never)]
+fn open_in_kept_planes(
+    schedule: &NarrowPlanes,
+    nonce: &Nonce,
+    additional_data: &[u8],
+    payload: &mut [u8],
+) -> Result<usize, OpenError>
+    requires { length additional_data.now ≤ 65279 }
+    ensures length { IfOk result (λ len. len + tag_length ≡ length payload.old) }
+    ensures opened { IfOk result (λ len. payload.old
+        ≡ ccm (narrow_key_of schedule.now) nonce.now additional_data.now (take len payload.new)) }
+    ensures tag_stays { IfOk result (λ len. drop len payload.new ≡ drop len payload.old) }
+    ensures accepts { (m : List ℕ) → length m ≤ 65535
+        → payload.old ≡ ccm (narrow_key_of schedule.now) nonce.now additional_data.now m → IsOk result }
+    ensures unchanged { OnErr result (payload.new ≡ payload.old) }
+{
+    let widened = schedule.widened();
+    open(&Schedule::Planes(&widened), nonce, additional_data, payload)
 }
 
 /// The schedule of one key of a context, kept from message to message.
 #[derive(Drop)]
 pub(crate) enum KeptSchedule {
     Tables(TableAes),
-    Planes(PlaneAes),
+    Planes(NarrowPlanes),
 }
 
 impl KeptSchedule {
@@ -192,7 +253,7 @@ impl KeptSchedule {
         ensures chosen { keeps_constant_time result ≡ constant_time }
     {
         if constant_time {
-            KeptSchedule::Planes(PlaneAes::new(key))
+            KeptSchedule::Planes(NarrowPlanes::new(key))
         } else {
             KeptSchedule::Tables(TableAes::new(key))
         }

@@ -8,7 +8,7 @@ pub loop-round-init : goal.loop-round-init
 loop-round-init c = (
   refl,
   first_key c.args.key.now (omega arith),
-  one_more_key 0 (replicate 11 (replicate 4 0)) (expanded_key c.args.key.now) c.args.key.now c.turned_words.result (omega arith) (first_key c.args.key.now (omega arith)) c.turned_words.ensures
+  one_more_key 0 (replicate 11 (replicate 8 0)) (expanded_key c.args.key.now) c.args.key.now c.turned_planes.result (omega arith) (first_key c.args.key.now (omega arith)) c.turned_planes.ensures
       (λ r lt. absurd (omega (arith, lt))),
 )
 
@@ -18,7 +18,7 @@ loop-round-preserved c =
       search rules,
       next,
       one_more_key (c.loop-round.round + 1) c.loop-round.keys (expanded_key c.args.key.now) c.next_round_key-next.result
-          c.turned_words-in-loop-round.result (omega arith) next c.turned_words-in-loop-round.ensures c.loop-round.invariant.2,
+          c.turned_planes-in-loop-round.result (omega arith) next c.turned_planes-in-loop-round.ensures c.loop-round.invariant.2,
     )
 
 pub returns : goal.returns

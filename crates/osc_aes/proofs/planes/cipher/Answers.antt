@@ -1,12 +1,11 @@
 use Rattle.std.proofs.Common.{◌≡◌, ◌+◌, ◌*◌, [], get_or, refl, arith}
 use Rattle.osc_aes.specs.Lanes.{block_in}
-use Rattle.osc_aes.proofs.NarrowKeys.{wide_key}
 use Rattle.osc_aes.proofs.PlaneRounds.{first_planes, last_planes}
 use Rattle.osc_aes.proofs.planes.cipher.Goals as goal
 
 pub loop-four-init : goal.loop-four-init
 loop-four-init c = λ w held b few.
-    first_planes w b few c.widened.result c.args.planes c.add_planes-state.result (wide_key 0 (get_or c.args.keys.now 0 []) c.widened.result w c.widened.ensures (held 0 (omega arith))) c.add_planes-state.ensures
+    first_planes w b few (get_or c.args.keys.now 0 []) c.args.planes c.add_planes-state.result (held 0 (omega arith)) c.add_planes-state.ensures
 
 pub loop-four-preserved : goal.loop-four-preserved
 loop-four-preserved c = λ w held b few.
@@ -18,6 +17,6 @@ pub returns : goal.returns
 returns c = λ w held b few.
     let done : c.loop-four.four ≡ 2 = omega arith in
     let eight = rw done at c.loop-four.invariant w held b few in
-    last_planes w b few (block_in 0 c.args.planes b) c.widened-3.result c.round-mixed.result c.sub_bytes.result c.add_planes.result
-    (c.round-mixed.ensures w (block_in 0 c.args.planes b) 8 9 b refl refl (wide_key 9 (get_or c.args.keys.now 9 []) c.widened-2.result w c.widened-2.ensures (held 9 (omega arith))) few eight)
-    c.sub_bytes.ensures (wide_key 10 (get_or c.args.keys.now 10 []) c.widened-3.result w c.widened-3.ensures (held 10 (omega arith))) c.add_planes.ensures
+    last_planes w b few (block_in 0 c.args.planes b) (get_or c.args.keys.now 10 []) c.round-mixed.result c.sub_bytes.result c.add_planes.result
+    (c.round-mixed.ensures w (block_in 0 c.args.planes b) 8 9 b refl refl (held 9 (omega arith)) few eight)
+    c.sub_bytes.ensures (held 10 (omega arith)) c.add_planes.ensures

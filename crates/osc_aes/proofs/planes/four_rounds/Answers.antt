@@ -1,11 +1,10 @@
-use Rattle.std.proofs.Common.{◌+◌, [], arith, get_or}
-use Rattle.osc_aes.proofs.NarrowKeys.{wide_key}
+use Rattle.std.proofs.Common.{◌+◌, arith}
 use Rattle.osc_aes.proofs.planes.four_rounds.Goals as goal
 
 pub returns : goal.returns
 returns c = λ w block held b few known.
     let n = c.args.done in
-    let one = c.round-one.ensures w block n (n + 1) b (omega arith) (omega arith) (wide_key (n + 1) (get_or c.args.keys.now (n + 1) []) c.widened.result w c.widened.ensures (held (n + 1) (omega arith))) few known in
-    let two = c.round-two.ensures w block (n + 1) (n + 2) b (omega arith) (omega arith) (wide_key (n + 2) (get_or c.args.keys.now (n + 2) []) c.widened-2.result w c.widened-2.ensures (held (n + 2) (omega arith))) few one in
-    let three = c.round-three.ensures w block (n + 2) (n + 3) b (omega arith) (omega arith) (wide_key (n + 3) (get_or c.args.keys.now (n + 3) []) c.widened-3.result w c.widened-3.ensures (held (n + 3) (omega arith))) few two in
-    c.round.ensures w block (n + 3) (n + 4) b (omega arith) (omega arith) (wide_key (n + 4) (get_or c.args.keys.now (n + 4) []) c.widened-4.result w c.widened-4.ensures (held (n + 4) (omega arith))) few three
+    let one = c.round-one.ensures w block n (n + 1) b (omega arith) (omega arith) (held (n + 1) (omega arith)) few known in
+    let two = c.round-two.ensures w block (n + 1) (n + 2) b (omega arith) (omega arith) (held (n + 2) (omega arith)) few one in
+    let three = c.round-three.ensures w block (n + 2) (n + 3) b (omega arith) (omega arith) (held (n + 3) (omega arith)) few two in
+    c.round.ensures w block (n + 3) (n + 4) b (omega arith) (omega arith) (held (n + 4) (omega arith)) few three

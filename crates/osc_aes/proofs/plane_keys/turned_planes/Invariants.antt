@@ -1,5 +1,5 @@
 use Rattle.std.proofs.Common.{◌≡◌, ℕ, ◌+◌, ◌*◌, ◌/◌, ◌%◌, ◌<◌, length, get_or}
-use Rattle.osc_aes.proofs.plane_keys.turned_words.Given as goal
+use Rattle.osc_aes.proofs.plane_keys.turned_planes.Given as goal
 
 abbrev pub invariant-loop-n : goal.invariant-loop-n
 invariant-loop-n l =

@@ -1,7 +1,7 @@
 use Rattle.std.proofs.Common.{◌+◌, ◌*◌, ◌/◌, ◌%◌, get_or, refl, arith, rules}
 use Rattle.osc_aes.proofs.Fills.{fill_by_next}
 use Rattle.osc_aes.proofs.PlaneKeys.{turned_key}
-use Rattle.osc_aes.proofs.plane_keys.turned_words.Goals as goal
+use Rattle.osc_aes.proofs.plane_keys.turned_planes.Goals as goal
 
 pub loop-n-preserved : goal.loop-n-preserved
 loop-n-preserved c = (
@@ -11,5 +11,5 @@ loop-n-preserved c = (
 
 pub returns : goal.returns
 returns c =
-    turned_key c.args.round c.args.round_key.now c.loop-n.turned c.pack.result c.narrowed.result c.pack.ensures.first c.narrowed.ensures
+    turned_key c.args.round c.args.round_key.now c.loop-n.turned c.pack.result c.pack.ensures.first c.pack.ensures.second
     (λ m lt. c.loop-n.invariant.1 m (omega (arith, lt)))
