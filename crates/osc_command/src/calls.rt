@@ -84,14 +84,20 @@ Events of a server, one a line; bytes are hex, and - for none:
   drop EVENT                        the request of an event is answered no more
   restart NEXT                      a new life, with NEXT as its next Sender
                                     Sequence Number
+  replace SECRET SALT SENDER RECIPIENT ID-CONTEXT fresh|restarted NEXT
+                                    another context in the place of this one;
+                                    ID-CONTEXT is none where there is none
 
 Events of a client:
   request NOW PLAIN                 a request is sent
   take NOW DATAGRAM                 a datagram comes
   forget TOKEN                      no response to that request is waited for
   restart NEXT                      none is pending, and NEXT is the next number
+  replace SECRET SALT SENDER RECIPIENT ID-CONTEXT NEXT
+                                    another context in the place of this one
 
-With --numbers FILE, made where it is missing, the line is restart alone.
+With --numbers FILE, made where it is missing, the line is restart alone, and
+there is no replace.
 
 Events of a peer: reply, notify, drop, request and forget as above, and
   take NOW MID DATAGRAM             a datagram comes that may be a request

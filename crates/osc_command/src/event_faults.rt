@@ -1,6 +1,9 @@
 //! What is wrong with a line of input that isn't an event, in one line.
 
-use self::Field::{Datagram, Echo, Event, Mid, Ms, Next, Now, Own, Plain, Token};
+use self::Field::{
+    Datagram, Echo, Event, IdContext, Mid, Ms, Next, Now, Own, Plain, Recipient, Salt, Secret,
+    Sender, Start, Token,
+};
 use osc_text::{read_decimal, read_number};
 use std::alloc::{AllocError, Global};
 use std::str;
@@ -16,6 +19,12 @@ pub(crate) enum Field {
     Own,
     Plain,
     Token,
+    Secret,
+    Salt,
+    Sender,
+    Recipient,
+    IdContext,
+    Start,
     Next,
 }
 
@@ -81,32 +90,37 @@ const RESTART: Form = Form { word: "restart", fields: &[Next], names: "followed 
 #[rattlefmt::skip]
 const RESTART_ALONE: Form = Form { word: "restart", fields: &[], names: "followed by nothing with --numbers" };
 
-const SERVER_WORDS: &str = "take, reply, notify, drop and restart";
+/// The word of a line that puts another context in the place of an end's.
+const REPLACE_WORD: &str = "replace";
 
-const CLIENT_WORDS: &str = "request, take, forget and restart";
+#[rattlefmt::skip]
+const REPLACE: Form = Form { word: REPLACE_WORD, fields: &[Secret, Salt, Sender, Recipient, IdContext, Start, Next], names: "followed by SECRET SALT SENDER RECIPIENT ID-CONTEXT fresh|restarted NEXT" };
+
+#[rattlefmt::skip]
+const REPLACE_BY_CLIENT: Form = Form { word: REPLACE_WORD, fields: &[Secret, Salt, Sender, Recipient, IdContext, Next], names: "followed by SECRET SALT SENDER RECIPIENT ID-CONTEXT NEXT" };
 
 /// The events of a server.
 pub(crate) const SERVER: Forms = Forms {
-    forms: &[TAKE, REPLY, NOTIFY, DROP, RESTART],
-    words: SERVER_WORDS,
+    forms: &[TAKE, REPLY, NOTIFY, DROP, RESTART, REPLACE],
+    words: "take, reply, notify, drop, restart and replace",
 };
 
 /// The events of a server whose numbers are kept in a file.
 pub(crate) const KEPT_SERVER: Forms = Forms {
     forms: &[TAKE, REPLY, NOTIFY, DROP, RESTART_ALONE],
-    words: SERVER_WORDS,
+    words: "take, reply, notify, drop and restart",
 };
 
 /// The events of a client.
 pub(crate) const CLIENT: Forms = Forms {
-    forms: &[REQUEST, TAKE_RESPONSE, FORGET, RESTART],
-    words: CLIENT_WORDS,
+    forms: &[REQUEST, TAKE_RESPONSE, FORGET, RESTART, REPLACE_BY_CLIENT],
+    words: "request, take, forget, restart and replace",
 };
 
 /// The events of a client whose numbers are kept in a file.
 pub(crate) const KEPT_CLIENT: Forms = Forms {
     forms: &[REQUEST, TAKE_RESPONSE, FORGET, RESTART_ALONE],
-    words: CLIENT_WORDS,
+    words: "request, take, forget and restart",
 };
 
 /// The events of a peer.
@@ -138,6 +152,11 @@ fn is_bytes(word: &str) -> bool {
     word == "-" || (word.len().is_multiple_of(2) && is_hex(word))
 }
 
+/// Returns whether a word is so many bytes in hex at most, or the dash that stands for no bytes.
+fn is_up_to(word: &str, most: usize) -> bool {
+    is_bytes(word) && word.len() / 2 <= most
+}
+
 impl Field {
     /// Returns whether a word can be this field.
     fn takes(&self, word: &str) -> bool {
@@ -148,6 +167,11 @@ impl Field {
             Field::Mid => word.len() == 4 && is_hex(word),
             Field::Own => word == "own" || word == "shared",
             Field::Datagram | Field::Plain | Field::Token => is_bytes(word),
+            Field::Secret => word != "-" && is_up_to(word, 64),
+            Field::Salt => is_up_to(word, 64),
+            Field::Sender | Field::Recipient => is_up_to(word, 7),
+            Field::IdContext => word == "none" || (word != "-" && is_up_to(word, 32)),
+            Field::Start => word == "fresh" || word == "restarted",
         }
     }
 
@@ -163,6 +187,12 @@ impl Field {
             Field::Own => "own or shared must come after EVENT",
             Field::Plain => "PLAIN must be bytes in hex, or - for none",
             Field::Token => "TOKEN must be bytes in hex, or - for none",
+            Field::Secret => "SECRET must be 1 to 64 bytes in hex",
+            Field::Salt => "SALT must be at most 64 bytes in hex, or - for none",
+            Field::Sender => "SENDER must be at most 7 bytes in hex, or - for none",
+            Field::Recipient => "RECIPIENT must be at most 7 bytes in hex, or - for none",
+            Field::IdContext => "ID-CONTEXT must be 1 to 32 bytes in hex, or none",
+            Field::Start => "fresh or restarted must come before NEXT",
             Field::Next => "NEXT must be a number below 2^40",
         }
     }
@@ -215,6 +245,10 @@ fn line_fault(alloc: Global, forms: Forms, line: &str) -> Result<String, AllocEr
     }
     match field_fault(form, line) {
         Some(rule) => String::from_str(alloc, rule),
+        // Of two identifiers that each may stand there, this is what no context can have.
+        None if form.word == REPLACE_WORD => {
+            String::from_str(alloc, "SENDER and RECIPIENT must differ")
+        }
         None => not_an_event(alloc, forms),
     }
 }

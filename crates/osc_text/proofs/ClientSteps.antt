@@ -1,10 +1,9 @@
 -- A run of a client of the code is one of the lines' events, and each has one line.
-use Rattle.std.proofs.Common.{◌≡◌, ℕ, List, [], ◌∷◌, ◌++◌, All, codes, map, length, refl, sym, ap, subst, ◌∙◌}
-use Rattle.std.proofs.lemmas.List.Elements.{All-head, All-tail}
+use Rattle.std.proofs.Common.{◌≡◌, ℕ, List, [], ◌++◌, codes, length, refl, sym, ap, ap₂, subst, ◌∙◌}
 use Rattle.osc_coap.specs.Datagram.{Parts, IsDatagram}
 use Rattle.osc_coap.specs.Laws.{DatagramHasNoFault, DatagramHasOneFault, DatagramIsOneMessage}
 use Rattle.osc_client.specs.ClientHistory.{History, Then, Event, Entry, Answer, Request, Datagram, Forget, Restart, Advance, Sent, NotSent, Took, Forgot, Restarted, Advanced, Malformed, NotResponse, UnknownToken, Unprotected, Undecodable, BadTag, BadInner, Old, Notified, Deliver, next}
-use Rattle.osc_endpoint.specs.ClientRun.{GoesOn, RequestStep, Run, ClientRunStep}
+use Rattle.osc_endpoint.specs.ClientRun.{GoesOn, RequestStep, ClientRunStep}
 use Rattle.osc_client.specs.Text.{request_error_text}
 use Rattle.osc_observe.specs.Received.{Received}
 use Rattle.osc_client.specs.Views.{ClientShows}
@@ -15,14 +14,18 @@ use Rattle.osc_endpoint.specs.declared.client_event.ClientEvent.TheVariants as e
 use Rattle.osc_client.specs.declared.client_outcome.ClientOutcome.{ClientOutcome}
 use Rattle.osc_client.specs.declared.client_outcome.ClientOutcome.TheVariants as outcomes
 use Rattle.osc_laws.specs.ClientLaws.{AllClientAnswers, OneClientAnswer}
+use Rattle.osc_context.specs.SecurityContext.{SecurityContext}
+use Rattle.osc_context.specs.declared.features.Features.{Features}
+use Rattle.osc_text.specs.AskedEvents.{AskedEvent}
 use Rattle.osc_text.specs.AskedEvents as asked
 use Rattle.osc_text.specs.AskedReading.{HasRoom, asked_seen}
-use Rattle.osc_text.specs.Asking.{ClientLine, RequestLine, places, request_room}
+use Rattle.osc_text.specs.Asking.{AskingState, ClientLine, EventLine, ReplaceLine, RequestLine, places, request_room}
+use Rattle.osc_text.specs.Asking.ReplaceLine.{placed, refused as not_placed}
 use Rattle.osc_text.specs.Asking.RequestLine.{bad_plain, refused, sent}
 use Rattle.osc_text.specs.ClientLines.{answer_line, answer_text, forgot_line, response_text, sent_line}
 use Rattle.osc_text.specs.ClientLog.{asked_line, outcome_text}
 use Rattle.osc_text.specs.EntryLines.{entry_line, not_done_line, restarted_line}
-use Rattle.osc_text.specs.InputText.{EventLines}
+use Rattle.osc_text.specs.ReplaceEvents as lines
 use Rattle.osc_text.proofs.InputTexts.{OneLine}
 
 -- ---- the lines of a run
@@ -50,18 +53,12 @@ request_is h k now plain room (entries.BadPlain e) is s = bad_plain e.fault e.pl
 request_is h k now plain room x is s = absurd s
 
 -- a step of the code is one of the lines
-pub step_is : (h k : History) (e : ClientEvent) (x : ClientEntry) → HasRoom e → ClientRunStep places h e x k → ClientLine h (asked_seen e) (asked_line x) k
+pub step_is : (h k : History) (e : ClientEvent) (x : ClientEntry) → HasRoom e → ClientRunStep places h e x k → EventLine h (asked_seen e) (asked_line x) k
 step_is h k (events.Request now plain out) x is s = request_is h k now plain.items (length out.items) x is s
 step_is h k (events.Datagram now bytes) (entries.Took x) is (answer, shows, goes) = (answer, goes, ap entry_line (outcome_is x answer shows))
 step_is h k (events.Forget token) (entries.Forgot was_pending) is goes = (was_pending, goes, refl)
 step_is h k (events.Restart first) entries.Restarted is goes = (goes, refl)
 step_is h k e x is s = absurd s
-
--- a run of the code has the lines of its events
-pub run_is : (h k : History) (all : List ClientEvent) (log : List ClientEntry) → All HasRoom all → Run places h all log k → EventLines ClientLine h (map asked_seen all) (map asked_line log)
-run_is h k [] [] is run = tt
-run_is h k (e ∷ all) (x ∷ log) is (mid, step, more) = (mid, step_is h mid e x (All-head HasRoom e all is) step, run_is mid k all log (All-tail HasRoom e all is) more)
-run_is h k all log is run = absurd run
 
 -- ---- one line
 
@@ -104,8 +101,30 @@ module _ (law : OneClientAnswer) (one : DatagramIsOneMessage) (one_fault : Datag
   one_request_line h k l now plain m n is (refused p e is_p goes text) (refused q f is_q goes_too text_too) = one_sealing h k l now plain m n p q (NotSent e) (NotSent f) is is_p is_q goes goes_too text text_too
 
   -- an event has one line and leaves one history
-  pub one_client_line : OneLine ClientLine (AllClientAnswers places)
-  one_client_line h k l (asked.Request now plain) m n is a b = one_request_line h k l now plain m n is a b
-  one_client_line h k l (asked.Take now d) m n is (x, goes, text) (y, goes_too, text_too) = one_answer h k l (Datagram now d) (Took x) (Took y) m n is goes goes_too text text_too
-  one_client_line h k l (asked.Forget token) m n is (x, goes, text) (y, goes_too, text_too) = one_answer h k l (Forget token) (Forgot x) (Forgot y) m n is goes goes_too text text_too
-  one_client_line h k l (asked.Restart first) m n is (goes, text) (goes_too, text_too) = one_answer h k l (Restart first) Restarted Restarted m n is goes goes_too text text_too
+  one_event_line : (h k l : History) (e : AskedEvent ℕ) (m n : List ℕ) → AllClientAnswers places h → EventLine h e m k → EventLine h e n l → (m ≡ n) × (k ≡ l) × AllClientAnswers places k
+  one_event_line h k l (asked.Request now plain) m n is a b = one_request_line h k l now plain m n is a b
+  one_event_line h k l (asked.Take now d) m n is (x, goes, text) (y, goes_too, text_too) = one_answer h k l (Datagram now d) (Took x) (Took y) m n is goes goes_too text text_too
+  one_event_line h k l (asked.Forget token) m n is (x, goes, text) (y, goes_too, text_too) = one_answer h k l (Forget token) (Forgot x) (Forgot y) m n is goes goes_too text text_too
+  one_event_line h k l (asked.Restart first) m n is (goes, text) (goes_too, text_too) = one_answer h k l (Restart first) Restarted Restarted m n is goes goes_too text text_too
+
+  -- another context has one line and leaves one history
+  one_replace_line : (h k l : History) (by : SecurityContext) (first : ℕ) (m n : List ℕ) → AllClientAnswers places h → ReplaceLine h by first m k → ReplaceLine h by first n l → (m ≡ n) × (k ≡ l) × AllClientAnswers places k
+  one_replace_line h k l by first m n is (placed differs a text) (placed differs_too b text_too) = (text ∙ sym text_too, a ∙ sym b, subst (AllClientAnswers places) (sym a) ((tt, tt), tt))
+  one_replace_line h k l by first m n is (placed differs a text) (not_placed same b text_too) = absurd (differs same)
+  one_replace_line h k l by first m n is (not_placed same a text) (placed differs b text_too) = absurd (differs same)
+  one_replace_line h k l by first m n is (not_placed same a text) (not_placed same_too b text_too) = (text ∙ sym text_too, a ∙ sym b, subst (AllClientAnswers places) (sym a) is)
+
+  same_state : (t u : AskingState) → t.history ≡ u.history → t.features ≡ u.features → t ≡ u
+  same_state t u h x = ap₂ made h x
+    where
+      made : History → Features → AskingState
+      made g y = record { history = g; features = y }
+
+  -- the same of a client of a run
+  pub one_client_line : OneLine ClientLine (λ s. AllClientAnswers places s.history)
+  one_client_line s t u (lines.Event e) m n is (a, x) (b, y) =
+      let same = one_event_line s.history t.history u.history e m n is a b in
+      (same.0, same_state t u same.1 (x ∙ sym y), same.2)
+  one_client_line s t u (lines.Replace by first) m n is (a, x) (b, y) =
+      let same = one_replace_line s.history t.history u.history _ first m n is a b in
+      (same.0, same_state t u same.1 (x ∙ sym y), same.2)

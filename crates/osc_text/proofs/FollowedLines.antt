@@ -86,7 +86,7 @@ module _ {V : Type 0} (spells : List ℕ → V → Type 0) (IsBad : List ℕ →
 -- ---- the lines so far
 
 -- one event more
-lines_to_more : {S E : Type 0} (step : S → E → List ℕ → S → Type 0) (s t u : S) (all : List E) (xs : List (List ℕ)) (e : E) (x : List ℕ) → EventLinesTo step s all xs t → step t e x u
+pub lines_to_more : {S E : Type 0} (step : S → E → List ℕ → S → Type 0) (s t u : S) (all : List E) (xs : List (List ℕ)) (e : E) (x : List ℕ) → EventLinesTo step s all xs t → step t e x u
     → EventLinesTo step s (all ++ e ∷ []) (xs ++ x ∷ []) u
 lines_to_more step s t u [] [] e x to more = (u, subst (λ z. step z e x u) to more, refl)
 lines_to_more step s t u (d ∷ all) (y ∷ xs) e x (mid, first, to) more = (mid, first, lines_to_more step mid t u all xs e x to more)

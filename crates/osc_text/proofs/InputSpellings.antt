@@ -206,7 +206,7 @@ map_some f None y h = cc h
 map_some f (Some x) y h = (x, refl, ap (λ o. unwrap_or o (f x)) h)
 
 -- the four words of some fields
-abbrev Four : Type 0
+abbrev pub Four : Type 0
 Four = List ℕ × List ℕ × List ℕ × List ℕ
 
 pub four_parted : (fields : List ℕ) (w : Four) → four_read fields ≡ Some w → fields ≡ parted (w.0 ∷ w.1 ∷ w.2 ∷ w.3 ∷ [])

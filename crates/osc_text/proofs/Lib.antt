@@ -1,6 +1,7 @@
 pub mod Appending
 pub mod ContextTexts
 pub mod OneServerTexts
+pub mod EachLines
 pub mod OpenTexts
 pub mod ExplainTexts
 pub mod FollowedLines
@@ -18,6 +19,8 @@ pub mod NumberWords
 pub mod PeerPrinting
 pub mod PeerSpellings
 pub mod ProtectTexts
+pub mod ReplaceSpellings
+pub mod RunLines
 pub mod ServerSteps
 pub mod ServerTexts
 pub mod AskedSpellings

@@ -4,16 +4,22 @@ use Rattle.osc_coap.specs.Datagram.{Parts, IsDatagram}
 use Rattle.osc_coap.specs.Laws.{DatagramHasNoFault, DatagramHasOneFault, DatagramIsOneMessage}
 use Rattle.osc_laws.specs.Laws.{AllAnswers, OneServerAnswer}
 use Rattle.osc_life.specs.LifeAnswer.{asks_own}
-use Rattle.osc_life.specs.ServerHistory.{Datagram, Entry, Event, History, NotReplied, NotRestarted, Notify, Replied, Reply, Restarted, Then, TicketValues, Took}
+use Rattle.osc_life.specs.ServerHistory.{Datagram, Entry, Event, History, NotReplaced, NotReplied, NotRestarted, Notify, Replaced, Replied, Reply, Restarted, Then, TicketValues, Took}
 use Rattle.osc_endpoint.specs.ServerRun.{GoesOn, ticket_at}
 use Rattle.osc_life.specs.Logged.{ticket_of}
-use Rattle.osc_life.specs.Text.{reply_error_text, restart_error_text}
+use Rattle.osc_life.specs.Text.{replace_error_text, reply_error_text, restart_error_text}
+use Rattle.osc_context.specs.SecurityContext.{SecurityContext}
+use Rattle.osc_context.specs.declared.features.Features.{Features}
+use Rattle.osc_life.specs.declared.start.Start.{Start}
+use Rattle.osc_window.specs.declared.window_size.WindowSize.{WindowSize}
+use Rattle.osc_text.specs.ReplaceEvents as lines
 use Rattle.osc_text.specs.InputEvents.{InputEvent}
 use Rattle.osc_text.specs.InputEvents as input
-use Rattle.osc_text.specs.EntryLines.{bad_plain_line, not_done_line, restarted_line}
+use Rattle.osc_text.specs.EntryLines.{bad_plain_line, not_done_line, replaced_line, restarted_line}
 use Rattle.osc_text.specs.ServerLines.{replied_line, took_line}
-use Rattle.osc_text.specs.Serving.{AnsweredLine, EventLine, RestartLine, ServerLine, reply_room}
+use Rattle.osc_text.specs.Serving.{AnsweredLine, EventLine, ReplaceLine, RestartLine, ServerLine, ServingState, reply_room}
 use Rattle.osc_text.specs.Serving.AnsweredLine.{bad_plain, no_ticket, refused, replied}
+use Rattle.osc_text.specs.Serving.ReplaceLine.{refused as not_replaced, replaced}
 use Rattle.osc_text.specs.Serving.RestartLine.{refused as not_restarted, restarted}
 use Rattle.osc_text.proofs.InputTexts.{OneLine}
 
@@ -24,6 +30,8 @@ line_of (Replied bytes) = replied_line bytes
 line_of (NotReplied e) = not_done_line (reply_error_text e)
 line_of Restarted = restarted_line
 line_of (NotRestarted e) = not_done_line (restart_error_text e)
+line_of Replaced = replaced_line
+line_of (NotReplaced e) = not_done_line (replace_error_text e)
 line_of entry = []
 
 -- the ticket that an entry gives
@@ -90,6 +98,12 @@ module _ (law : OneServerAnswer) (one : DatagramIsOneMessage) (one_fault : Datag
   one_restart_line h k l next m n all (not_restarted e a b) (restarted c d) = (b ∙ ap line_of (one_entry h k l _ (NotRestarted e) Restarted all a c) ∙ sym d, one_history h k l _ (NotRestarted e) Restarted all a c)
   one_restart_line h k l next m n all (not_restarted e a b) (not_restarted f c d) = (b ∙ ap line_of (one_entry h k l _ (NotRestarted e) (NotRestarted f) all a c) ∙ sym d, one_history h k l _ (NotRestarted e) (NotRestarted f) all a c)
 
+  one_replace_line : (h k l : History) (by : SecurityContext) (start : Start) (size : WindowSize) (m n : List ℕ) → AllAnswers h → ReplaceLine h by start size m k → ReplaceLine h by start size n l → (m ≡ n) × (k ≡ l)
+  one_replace_line h k l by start size m n all (replaced a b) (replaced c d) = (b ∙ ap line_of (one_entry h k l _ Replaced Replaced all a c) ∙ sym d, one_history h k l _ Replaced Replaced all a c)
+  one_replace_line h k l by start size m n all (replaced a b) (not_replaced e c d) = (b ∙ ap line_of (one_entry h k l _ Replaced (NotReplaced e) all a c) ∙ sym d, one_history h k l _ Replaced (NotReplaced e) all a c)
+  one_replace_line h k l by start size m n all (not_replaced e a b) (replaced c d) = (b ∙ ap line_of (one_entry h k l _ (NotReplaced e) Replaced all a c) ∙ sym d, one_history h k l _ (NotReplaced e) Replaced all a c)
+  one_replace_line h k l by start size m n all (not_replaced e a b) (not_replaced f c d) = (b ∙ ap line_of (one_entry h k l _ (NotReplaced e) (NotReplaced f) all a c) ∙ sym d, one_history h k l _ (NotReplaced e) (NotReplaced f) all a c)
+
   -- an event has one line, one history and one list of tickets
   one_event_line : (h k l : History) (ts us vs : List (Option TicketValues)) (e : InputEvent ℕ) (m n : List ℕ) → AllAnswers h
       → EventLine h ts e m k us → EventLine h ts e n l vs → (m ≡ n) × (k ≡ l) × (us ≡ vs)
@@ -129,8 +143,21 @@ module _ (law : OneServerAnswer) (one : DatagramIsOneMessage) (one_fault : Datag
   event_on h k ts us (input.Restart next) m all (restarted goes text, after) = all_on h k _ _ all goes
   event_on h k ts us (input.Restart next) m all (not_restarted e goes text, after) = all_on h k _ _ all goes
 
-  -- the same, of the history and the tickets as one state
-  pub one_server_line : OneLine ServerLine (λ s. AllAnswers s.0)
-  one_server_line s t u e m n is a b =
-      let same = one_event_line s.0 t.0 u.0 s.1 t.1 u.1 e m n is a b in
-      (same.0, ap₂ (λ (k : History) (us : List (Option TicketValues)). (k, us)) same.1 same.2, event_on s.0 t.0 s.1 t.1 e m is a)
+  replace_on : (h k : History) (by : SecurityContext) (start : Start) (size : WindowSize) (m : List ℕ) → AllAnswers h → ReplaceLine h by start size m k → AllAnswers k
+  replace_on h k by start size m all (replaced goes text) = all_on h k _ _ all goes
+  replace_on h k by start size m all (not_replaced e goes text) = all_on h k _ _ all goes
+
+  same_state : (t u : ServingState) → t.history ≡ u.history → t.tickets ≡ u.tickets → t.features ≡ u.features → t.size ≡ u.size → t ≡ u
+  same_state t u h ts x w = ap₂ (λ g us. made g us t.features t.size) h ts ∙ ap₂ (made u.history u.tickets) x w
+    where
+      made : History → List (Option TicketValues) → Features → WindowSize → ServingState
+      made g us y size = record { history = g; tickets = us; features = y; size = size }
+
+  -- the same, of a server of a run
+  pub one_server_line : OneLine ServerLine (λ s. AllAnswers s.history)
+  one_server_line s t u (lines.Event e) m n is (a, x) (b, y) =
+      let same = one_event_line s.history t.history u.history s.tickets t.tickets u.tickets e m n is a b in
+      (same.0, same_state t u same.1 same.2 (x.0 ∙ sym y.0) (x.1 ∙ sym y.1), event_on s.history t.history s.tickets t.tickets e m is a)
+  one_server_line s t u (lines.Replace by start) m n is (a, left, x) (b, left_too, y) =
+      let same = one_replace_line s.history t.history u.history _ start s.size m n is a b in
+      (same.0, same_state t u same.1 (left ∙ sym left_too) (x.0 ∙ sym y.0) (x.1 ∙ sym y.1), replace_on s.history t.history _ start s.size m is a)

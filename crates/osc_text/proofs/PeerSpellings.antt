@@ -19,15 +19,15 @@ use Rattle.osc_text.proofs.InputWords.{IsNot, split_at, split_parts}
 -- ---- what is read of a line that only a peer has is spelled
 
 -- three words are read as they are parted
-three_split : (a b c : List ℕ) → All (IsNot 32) a → All (IsNot 32) b → three_read (parted (a ∷ b ∷ c ∷ [])) ≡ Some (a, b, c)
+pub three_split : (a b c : List ℕ) → All (IsNot 32) a → All (IsNot 32) b → three_read (parted (a ∷ b ∷ c ∷ [])) ≡ Some (a, b, c)
 unfolding three_read
 three_split a b c no_a no_b = rw (split_at 32 a (parted (b ∷ c ∷ [])) no_a, split_at 32 b c no_b) refl
 
 -- the three words of some fields
-abbrev Three : Type 0
+abbrev pub Three : Type 0
 Three = List ℕ × List ℕ × List ℕ
 
-three_parted : (fields : List ℕ) (w : Three) → three_read fields ≡ Some w → fields ≡ parted (w.0 ∷ w.1 ∷ w.2 ∷ [])
+pub three_parted : (fields : List ℕ) (w : Three) → three_read fields ≡ Some w → fields ≡ parted (w.0 ∷ w.1 ∷ w.2 ∷ [])
 unfolding three_read
 three_parted fields w h =
     let p = then_some _ (split_once 32 fields) w h in

@@ -1,6 +1,5 @@
 -- A run of the code is one of the lines' events.
-use Rattle.std.proofs.Common.{◌≡◌, ℕ, Bool, List, [], ◌∷◌, ◌++◌, All, map, length, Option, Ok, Err, refl, ap, subst}
-use Rattle.std.proofs.lemmas.List.Elements.{All-head, All-tail}
+use Rattle.std.proofs.Common.{◌≡◌, ℕ, Bool, List, ◌++◌, length, Option, Ok, Err, refl, ap, subst}
 use Rattle.osc_context.specs.Views.{number_of}
 use Rattle.osc_life.specs.declared.seen.Seen.{Seen}
 use Rattle.osc_life.specs.declared.seen.Seen.TheVariants as seen
@@ -11,14 +10,13 @@ use Rattle.osc_endpoint.specs.declared.server_event.ServerEntry.TheVariants as e
 use Rattle.osc_life.specs.ServerHistory.{History, Answer, TicketValues, Malformed, NotRequest, Plain, Undecodable, NoContext, Replay, BadTag, BadInner, Challenge, SequenceExhausted, Deliver, NotReplied, NotRestarted, Replied, Reply, Restart, Restarted, Notify}
 use Rattle.osc_observe.specs.Received.{Received}
 use Rattle.osc_life.specs.LifeAnswer.{asks_own}
-use Rattle.osc_endpoint.specs.ServerRun.{DropStep, GoesOn, NotifyStep, ReplyStep, Run, ServerRunStep}
+use Rattle.osc_endpoint.specs.ServerRun.{DropStep, GoesOn, NotifyStep, ReplyStep, ServerRunStep}
 use Rattle.osc_life.specs.Logged.{Logs}
 use Rattle.osc_text.specs.EntryLines.{entry_line}
-use Rattle.osc_text.specs.InputText.{EventLines}
 use Rattle.osc_text.specs.ServedReading.{IsOfRun, event_seen}
 use Rattle.osc_text.specs.ServerLines.{answer_text, delivery_text, dropped_line, reply_text}
 use Rattle.osc_text.specs.ServerLog.{log_line, seen_text}
-use Rattle.osc_text.specs.Serving.{DropLine, EventLine, NotifyLine, ReplyLine, ServerLine, reply_room}
+use Rattle.osc_text.specs.Serving.{DropLine, EventLine, NotifyLine, ReplyLine, reply_room}
 use Rattle.osc_text.specs.Serving.AnsweredLine.{no_ticket, bad_plain, replied, refused}
 use Rattle.osc_text.specs.Serving.RestartLine.{restarted, refused as not_restarted}
 
@@ -77,11 +75,3 @@ step_is h k ts us (events.Restart context next) (entries.Restarted (Ok y)) is (g
 step_is h k ts us (events.Restart context next) (entries.Restarted (Err e)) is (goes, after) =
     (not_restarted e (subst (λ (i : ℕ). GoesOn h (Restart i (number_of next)) (NotRestarted e) k) is goes) refl, after)
 step_is h k ts us e x is s = absurd s
-
--- a run of the code has the lines of its events
-pub run_is : (h k : History) (ts us : List (Option TicketValues)) (all : List ServerEvent) (log : List ServerEntry) → All IsOfRun all → Run h ts all log k us
-    → EventLines ServerLine (h, ts) (map event_seen all) (map log_line log)
-run_is h k ts us [] [] is run = tt
-run_is h k ts us (e ∷ all) (x ∷ log) is (mid, vs, step, more) =
-    ((mid, vs), step_is h mid ts vs e x (All-head IsOfRun e all is) step, run_is mid k vs us all log (All-tail IsOfRun e all is) more)
-run_is h k ts us all log is run = absurd run

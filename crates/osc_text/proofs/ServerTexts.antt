@@ -8,12 +8,12 @@ use Rattle.osc_life.specs.ServerHistory.{Add, Added, Begin, Entry, NotAdded, The
 use Rattle.osc_life.specs.Text.{add_error_text}
 use Rattle.osc_life.specs.declared.server_error.AddError.{AddError}
 use Rattle.osc_life.specs.declared.start.Start.{Start}
-use Rattle.osc_text.specs.InputEvents.{SpellsEvent}
 use Rattle.osc_text.specs.InputText.{InputText}
 use Rattle.osc_text.specs.Inputs.{IsFirstBadLine}
 use Rattle.osc_text.specs.Lines.{refused_line}
 use Rattle.osc_text.specs.Printing.{BeginsBadly, Prints}
-use Rattle.osc_text.specs.Serving.{ServerLine, ServerText}
+use Rattle.osc_text.specs.ReplaceEvents.{SpellsServing}
+use Rattle.osc_text.specs.Serving.{ServerLine, ServerText, ServingState, serving_from}
 use Rattle.osc_text.specs.Serving.ServerText.{not_started as refused, served}
 use Rattle.osc_text.specs.Written.{Writes}
 use Rattle.osc_text.specs.declared.fault.Fault.{Fault}
@@ -21,7 +21,7 @@ use Rattle.osc_text.proofs.InputTexts.{Never, Refuses, prints_as, refusal_prints
 
 -- the context starts, and the line with this number is the first bad one
 abbrev StartsBadly : SecurityContext → Start → WindowSize → List ℕ → ℕ → Type 0
-StartsBadly s start size = BeginsBadly (λ i. ServerAnswer Begin (Add s start size 1) (Added i)) SpellsEvent
+StartsBadly s start size = BeginsBadly (λ i. ServerAnswer Begin (Add s start size 1) (Added i)) SpellsServing
 
 -- the lines of a refused start
 abbrev refusal_lines : Entry → List (List ℕ)
@@ -36,15 +36,18 @@ server_two s start size bytes lines n (served i answer text) = inl text.3
 module _ {X : Type 0} (law : OneServerAnswer) (contents : X → Option (List ℕ)) (s : SecurityContext) (start : Start) (size : WindowSize) (bytes : List ℕ) (before after : X) (r : Result ℕ Fault) where
   -- a server that started prints what its input says
   pub start_prints : (i : ℕ) → ServerAnswer Begin (Add s start size 1) (Added i)
-      → Prints contents (InputText SpellsEvent ServerLine (Then Begin (Add s start size 1) (Added i), []) bytes) (IsFirstBadLine SpellsEvent bytes) before after r
+      → Prints contents (InputText SpellsServing ServerLine (serving_from s start size i) bytes) (IsFirstBadLine SpellsServing bytes) before after r
       → Prints contents (ServerText s start size bytes) (StartsBadly s start size bytes) before after r
   start_prints i answer p = prints_as contents before after r _ (ServerText s start size bytes) _ (StartsBadly s start size bytes) p (λ lines n text. served i answer text) back (λ n bad. (i, answer, bad)) (λ n bad. bad.2)
     where
-      back : (lines : List (List ℕ)) (n : ℕ) → ServerText s start size bytes lines n → InputText SpellsEvent ServerLine (Then Begin (Add s start size 1) (Added i), []) bytes lines n
+      begun : Entry → ServingState
+      begun x = record { history = Then Begin (Add s start size 1) x; tickets = []; features = s.features; size = size }
+
+      back : (lines : List (List ℕ)) (n : ℕ) → ServerText s start size bytes lines n → InputText SpellsServing ServerLine (serving_from s start size i) bytes lines n
       back lines n (refused e answer_too text two) = let same = law Begin (Add s start size 1) (Added i) (NotAdded e) tt answer answer_too in cc same
       back lines n (served j answer_too text) =
           let same = law Begin (Add s start size 1) (Added j) (Added i) tt answer_too answer in
-          subst (λ (x : Entry). InputText SpellsEvent ServerLine (Then Begin (Add s start size 1) x, []) bytes lines n) same text
+          subst (λ (x : Entry). InputText SpellsServing ServerLine (begun x) bytes lines n) same text
 
   -- a refused start is printed
   pub no_start_prints : (e : AddError) → ServerAnswer Begin (Add s start size 1) (NotAdded e) → Writes (contents before) (contents after) (refused_line (add_error_text e) ∷ []) r → IfOk r (λ n. n ≡ 2)

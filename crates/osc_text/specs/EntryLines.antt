@@ -44,3 +44,7 @@ bad_plain_line fault place = entry_line (codes "bad-plain " ++ fault_text fault 
 -- the line of a restart (own rule)
 abbrev pub restarted_line : List ℕ
 restarted_line = entry_line (codes "restarted")
+
+-- the line of another context in the place of an end's (own rule)
+abbrev pub replaced_line : List ℕ
+replaced_line = entry_line (codes "replaced")

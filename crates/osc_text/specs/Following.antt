@@ -1,29 +1,28 @@
 -- To be believed: what `run --follow` prints, whatever its lines ask for (own rule). The lines are printed as they come, so a fault leaves the lines of the
 -- events before it. old and new are the writer before and after, contents is what a writer tells about its bytes, g is what the context is derived from.
-use Rattle.std.specs.Prelude.{◌≡◌, ◌⊎◌, ℕ, [], List, ◌++◌, Option, Result, Ok, Err}
+use Rattle.std.specs.Prelude.{◌≡◌, ◌⊎◌, ℕ, List, ◌++◌, Option, Result, Ok, Err}
 use Rattle.std.specs.Io.KnownBytes.{Appends}
-use Rattle.osc_client.specs.ClientHistory as client
 use Rattle.osc_context.specs.ContextRefusal.{RefusesParams}
 use Rattle.osc_context.specs.SecurityContext.{SecurityContext}
-use Rattle.osc_context.specs.Views.{number_of}
 use Rattle.osc_context.specs.declared.context_error.ContextError.{ContextError}
 use Rattle.osc_context.specs.declared.keeper.Keeper as keeper
 use Rattle.osc_context.specs.declared.parameters.Params.{Params}
 use Rattle.osc_context.specs.declared.record_keeper.RecordKeeper as record_keeper
 use Rattle.osc_endpoint.specs.ServerAnswer.{ServerAnswer}
-use Rattle.osc_life.specs.ServerHistory.{Add, Added, Begin, History, Then, TicketValues}
+use Rattle.osc_life.specs.ServerHistory.{Add, Added, Begin}
 use Rattle.osc_life.specs.declared.start.Start.{Start}
-use Rattle.osc_text.specs.AskedEvents.{SpellsAsked, SpellsKeptAsked}
-use Rattle.osc_text.specs.Asking.{AskText, ClientLine, places}
+use Rattle.osc_text.specs.AskedEvents.{SpellsKeptAsked}
+use Rattle.osc_text.specs.Asking.{AskText, AskingState, ClientLine, asking_from, places}
 use Rattle.osc_text.specs.Contexts.{Told, agreed_client, agreed_server}
-use Rattle.osc_text.specs.InputEvents.{SpellsEvent, SpellsKept}
+use Rattle.osc_text.specs.InputEvents.{SpellsKept}
 use Rattle.osc_text.specs.InputText.{EventLines}
 use Rattle.osc_text.specs.Inputs.{AreLines, IsFirstBadLine, SpellEvents}
 use Rattle.osc_text.specs.KeptAsking.{KeptAskText, KeptAskedLine, StartsClient}
 use Rattle.osc_text.specs.KeptServing.{KeptLine, KeptServeText, Starts}
 use Rattle.osc_text.specs.PeerEvents.{SpellsPeer}
 use Rattle.osc_text.specs.Peering.{PeerLine, PeerText, StartsPeer}
-use Rattle.osc_text.specs.Serving.{ServeText, ServerLine, start_of}
+use Rattle.osc_text.specs.ReplaceEvents.{SpellsAsking, SpellsServing}
+use Rattle.osc_text.specs.Serving.{ServeText, ServerLine, ServingState, serving_from, start_of}
 use Rattle.osc_text.specs.Written.{AppendsFront, text_of}
 use Rattle.osc_text.specs.declared.agreed.Agreed.{Agreed}
 use Rattle.osc_text.specs.declared.asking.Asking.{Asking}
@@ -71,21 +70,21 @@ FollowedBy contents tells g Begins spells step input =
     Followed contents tells (λ n lines. HasBegun g Begins (λ s. StopsAt spells step s input n lines)) (λ lines. HasBegun g Begins (λ s. FrontOf spells step s input lines))
 
 -- a server that started, with no ticket yet (RFC 8613, B.1)
-abbrev pub StartsServer : SecurityContext → Start → WindowSize → History × List (Option TicketValues) → Type 0
-StartsServer c start size s = (index : ℕ) × ServerAnswer Begin (Add c start size 1) (Added index) × (s ≡ (Then Begin (Add c start size 1) (Added index), []))
+abbrev pub StartsServer : SecurityContext → Start → WindowSize → ServingState → Type 0
+StartsServer c start size s = (index : ℕ) × ServerAnswer Begin (Add c start size 1) (Added index) × (s ≡ serving_from c start size index)
 
 -- a client that begins, with nothing pending (RFC 8613, 8.1)
-abbrev pub IsNewClient : SecurityContext → Asking → client.History → Type 0
-IsNewClient c asking h = h ≡ client.New c (number_of asking.next) asking.life_ms
+abbrev pub IsNewClient : SecurityContext → Asking → AskingState → Type 0
+IsNewClient c asking s = s ≡ asking_from c asking
 
 -- what is printed for a server (RFC 8613, 7.4, 8.2, 8.3 and 8.3.1)
 abbrev pub ServeFollowed : {X : Type 0} → (X → Option (List ℕ)) → Agreed → Serving → List ℕ → X → X → Result ℕ Fault → Type 0
 ServeFollowed contents g serving input =
-    FollowedBy contents (ServeText g serving input) g.params (StartsServer (agreed_server g) (start_of serving) serving.window) SpellsEvent ServerLine input
+    FollowedBy contents (ServeText g serving input) g.params (StartsServer (agreed_server g) (start_of serving) serving.window) SpellsServing ServerLine input
 
 -- what is printed for a client (RFC 8613, 8.1, 8.4 and 8.4.2)
 abbrev pub AskFollowed : {X : Type 0} → (X → Option (List ℕ)) → Agreed → Asking → List ℕ → X → X → Result ℕ Fault → Type 0
-AskFollowed contents g asking input = FollowedBy contents (AskText g asking input) g.params (IsNewClient (agreed_client g) asking) SpellsAsked ClientLine input
+AskFollowed contents g asking input = FollowedBy contents (AskText g asking input) g.params (IsNewClient (agreed_client g) asking) SpellsAsking ClientLine input
 
 -- what is printed for a server whose numbers are kept (RFC 8613, 7.2.1, 7.4, 8.2, 8.3, 8.3.1 and B.1)
 abbrev pub KeptServeFollowed : {K X : Type 0} (k : keeper.Ghosts K) → (X → Option (List ℕ)) → Agreed → WindowSize → K → List ℕ → X → X → Result ℕ Fault → Type 0

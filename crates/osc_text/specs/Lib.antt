@@ -12,10 +12,11 @@ pub mod Inputs
 pub mod InputText
 pub mod EntryLines
 pub mod InputEvents
+pub mod AskedEvents
+pub mod ReplaceEvents
 pub mod ServerLines
 pub mod ServerLog
 pub mod Serving
-pub mod AskedEvents
 pub mod ClientLines
 pub mod ClientLog
 pub mod Asking
@@ -38,4 +39,6 @@ pub mod InputReading
 pub mod Outcomes
 pub mod PeerReading
 pub mod Printing
+pub mod ReplaceReading
+pub mod RunEnds
 pub mod ServedReading

@@ -5,25 +5,29 @@ use Rattle.osc_coap.specs.Datagram.{Parts, IsDatagram}
 use Rattle.osc_coap.specs.Fault.{HasFault}
 use Rattle.osc_coap.specs.declared.format_error.Fault.{Fault as MessageFault}
 use Rattle.osc_context.specs.SecurityContext.{SecurityContext}
+use Rattle.osc_context.specs.declared.features.Features.{Features}
 use Rattle.osc_text.specs.declared.agreed.Agreed.{Agreed}
 use Rattle.osc_window.specs.declared.window_size.WindowSize.{WindowSize}
 use Rattle.osc_endpoint.specs.ServerAnswer.{ServerAnswer}
 use Rattle.osc_life.specs.LifeAnswer.{asks_own}
-use Rattle.osc_life.specs.ServerHistory.{History, Begin, Then, Event, Answer, TicketValues, Add, Datagram, Reply, Notify, Restart, Added, NotAdded, Took, Replied, NotReplied, Restarted, NotRestarted}
+use Rattle.osc_life.specs.ServerHistory.{History, Begin, Then, Event, Answer, TicketValues, Add, Datagram, Reply, Notify, Replace, Restart, Added, NotAdded, Took, Replaced, NotReplaced, Replied, NotReplied, Restarted, NotRestarted}
 use Rattle.osc_endpoint.specs.ServerRun.{GoesOn, ticket_at}
 use Rattle.osc_life.specs.Logged.{ticket_of}
-use Rattle.osc_life.specs.Text.{add_error_text, reply_error_text, restart_error_text}
+use Rattle.osc_life.specs.Text.{add_error_text, replace_error_text, reply_error_text, restart_error_text}
 use Rattle.osc_life.specs.declared.server_error.AddError.{AddError}
+use Rattle.osc_life.specs.declared.server_error.ReplaceError.{ReplaceError}
 use Rattle.osc_life.specs.declared.server_error.ReplyError.{ReplyError}
 use Rattle.osc_life.specs.declared.server_error.RestartError.{RestartError}
 use Rattle.osc_life.specs.declared.start.Start.{Start}
 use Rattle.osc_life.specs.declared.start.Start.TheVariants as starts
 use Rattle.osc_text.specs.Contexts.{agreed_server, InContext, Told}
-use Rattle.osc_text.specs.EntryLines.{bad_plain_line, not_done_line, restarted_line}
-use Rattle.osc_text.specs.InputEvents.{InputEvent, SpellsEvent}
+use Rattle.osc_text.specs.EntryLines.{bad_plain_line, not_done_line, replaced_line, restarted_line}
+use Rattle.osc_text.specs.InputEvents.{InputEvent}
 use Rattle.osc_text.specs.InputEvents as input
 use Rattle.osc_text.specs.InputText.{HasBadLineOf, InputText}
 use Rattle.osc_text.specs.Lines.{refused_line}
+use Rattle.osc_text.specs.ReplaceEvents.{OrReplace, SpellsServing}
+use Rattle.osc_text.specs.ReplaceEvents as lines
 use Rattle.osc_text.specs.ServerLines.{took_line, replied_line, no_ticket_line, dropped_line}
 use Rattle.osc_text.specs.declared.serving.Serving.{Serving}
 
@@ -71,9 +75,31 @@ EventLine h ts (input.Drop of) line k us =
     (left : List (Option TicketValues)) × DropLine h ts of line k left × (us ≡ left ++ None ∷ [])
 EventLine h ts (input.Restart next) line k us = RestartLine h next line k × (us ≡ ts ++ None ∷ [])
 
--- the same, with the history and the tickets as one state (RFC 8613, 7.4, 8.2, 8.3 and 8.3.1)
-abbrev pub ServerLine : History × List (Option TicketValues) → InputEvent ℕ → List ℕ → History × List (Option TicketValues) → Type 0
-ServerLine before event line after = EventLine before.0 before.1 event line after.0 after.1
+-- another context in the place of the server's, and the line of its entry (RFC 8613, 3.3)
+pub data ReplaceLine (h : History) (by : SecurityContext) (start : Start) (size : WindowSize) (line : List ℕ) (k : History) : Type 0 where
+  replaced : GoesOn h (Replace 0 by start size) Replaced k → line ≡ replaced_line → ReplaceLine h by start size line k
+  refused : (e : ReplaceError) → GoesOn h (Replace 0 by start size) (NotReplaced e) k → line ≡ not_done_line (replace_error_text e) → ReplaceLine h by start size line k
+
+-- a server of a run: its history and its tickets, and what all contexts of the run have, the features that they take part in, and the size of their windows (own rule)
+pub record ServingState : Type 0 where
+  pub history : History
+  pub tickets : List (Option TicketValues)
+  pub features : Features
+  pub size : WindowSize
+
+-- both are servers of one run (own rule)
+abbrev pub AreOfOneRun : ServingState → ServingState → Type 0
+AreOfOneRun s t = (t.features ≡ s.features) × (t.size ≡ s.size)
+
+-- what a line asks of a server, and the line of the entry; another context has the features of the run (RFC 8613, 3.3, 7.4, 8.2, 8.3 and 8.3.1)
+abbrev pub ServerLine : ServingState → OrReplace (InputEvent ℕ) Start → List ℕ → ServingState → Type 0
+ServerLine s (lines.Event event) line t = EventLine s.history s.tickets event line t.history t.tickets × AreOfOneRun s t
+ServerLine s (lines.Replace by start) line t =
+    ReplaceLine s.history (record by { features = s.features }) start s.size line t.history × (t.tickets ≡ s.tickets ++ None ∷ []) × AreOfOneRun s t
+
+-- a server that started, with no ticket yet (RFC 8613, B.1)
+abbrev pub serving_from : SecurityContext → Start → WindowSize → ℕ → ServingState
+serving_from s start size index = record { history = Then Begin (Add s start size 1) (Added index); tickets = []; features = s.features; size = size }
 
 -- how the context begins: restarted, or fresh (RFC 8613, B.1)
 abbrev pub start_of : Serving → Start
@@ -83,7 +109,7 @@ start_of serving = if serving.is_restarted then starts.Restarted serving.next el
 pub data ServerText (s : SecurityContext) (start : Start) (size : WindowSize) (bytes : List ℕ) (lines : List (List ℕ)) (status : ℕ) : Type 0 where
   not_started : (e : AddError) → ServerAnswer Begin (Add s start size 1) (NotAdded e) → lines ≡ refused_line (add_error_text e) ∷ [] → status ≡ 2 → ServerText s start size bytes lines status
   served : (index : ℕ) → ServerAnswer Begin (Add s start size 1) (Added index)
-      → InputText SpellsEvent ServerLine (Then Begin (Add s start size 1) (Added index), []) bytes lines status → ServerText s start size bytes lines status
+      → InputText SpellsServing ServerLine (serving_from s start size index) bytes lines status → ServerText s start size bytes lines status
 
 -- what `run` prints for a server (RFC 8613, 7.4, 8.2, 8.3 and 8.3.1)
 abbrev pub ServeText : Agreed → Serving → List ℕ → Told
@@ -91,4 +117,4 @@ ServeText g serving bytes = InContext g.params (ServerText (agreed_server g) (st
 
 -- the context is derived and starts, and the line with this number, counted from 1, is the first that spells no event (own rule)
 abbrev pub HasBadLine : Agreed → Serving → List ℕ → ℕ → Type 0
-HasBadLine g serving = HasBadLineOf g.params (λ index. ServerAnswer Begin (Add (agreed_server g) (start_of serving) serving.window 1) (Added index)) SpellsEvent
+HasBadLine g serving = HasBadLineOf g.params (λ index. ServerAnswer Begin (Add (agreed_server g) (start_of serving) serving.window 1) (Added index)) SpellsServing

@@ -1,22 +1,24 @@
 //! What `run` prints for a client.
 
 ghost use Rattle.std.specs.Prelude.{◌≡◌, ◌⊎◌, ℕ, List, All, Err, IfOk, IfSome, map};
-ghost use Rattle.osc_context.specs.Views.{number_of};
+ghost use Rattle.osc_context.specs.Views.{as_client, number_of};
 ghost use Rattle.osc_client.specs.Agrees.{ClientAgrees};
-ghost use Rattle.osc_client.specs.ClientHistory.{History, New};
+ghost use Rattle.osc_client.specs.ClientHistory.{History};
 
 use crate::agreed::Agreed;
 use crate::ends::{Beginning, Done, End, Input, write_run};
-use crate::entry_lines::{put_entry, write_log};
+use crate::entry_lines::{put_entry, put_not_done, put_replaced};
 use crate::fault::Fault;
 use crate::following::Lines;
+use crate::replacing::{AskedLine, Common};
 use osc_coap::one_datagram;
 use osc_context::{Context, Piv};
 use osc_endpoint::siblings::ask_event;
-use osc_endpoint::{Client, ClientEvent, run_client};
+use osc_endpoint::{Client, ClientEvent};
 use osc_laws::one_client_answer;
 use std::alloc::Global;
 use std::io::{BufRead, Write};
+use std::mem;
 
 /// How a client begins.
 #[derive(Clone, Copy, Debug)]
@@ -27,14 +29,16 @@ pub struct Asking {
     pub life_ms: u64,
 }
 
-ghost use Rattle.osc_text.specs.AskedEvents.{SpellsAsked};
 ghost use Rattle.osc_text.specs.AskedReading.{HasRoom, asked_seen};
-ghost use Rattle.osc_text.specs.Asking.{AskText, ClientLine, HasBadAskedLine};
-ghost use Rattle.osc_text.specs.Feeding.{ByFeed, EndsWell, FollowedUnder, Follows};
+ghost use Rattle.osc_text.specs.Asking.{AskText, ClientLine, EventLine, HasBadAskedLine, ReplaceLine, asking_from};
+ghost use Rattle.osc_text.specs.Feeding.{ByFeed, EndsWell, FollowedUnder, Follows, RunsEvent};
 ghost use Rattle.osc_text.specs.Following.{AskFollowed, IsNewClient};
 ghost use Rattle.osc_text.specs.InputText.{EventLines, InputText, RefusesLine};
 ghost use Rattle.osc_text.specs.Inputs.{IsFirstBadLine};
 ghost use Rattle.osc_text.specs.Printing.{Prints};
+ghost use Rattle.osc_text.specs.ReplaceEvents.{SpellsAsking};
+ghost use Rattle.osc_text.specs.ReplaceReading.{IsAsked, asking_seen};
+ghost use Rattle.osc_text.specs.RunEnds.{asking_state};
 ghost use Rattle.osc_text.specs.Written.{Writes};
 ghost use Rattle.osc_text.specs.declared.fault.Fault.TheVariants.{Line};
 
@@ -83,10 +87,10 @@ pub fn ask_following<R: BufRead, W: Write>(
 
 impl Beginning for Asking {
     ghost promised = { λ asking client server feed X contents before after r. ByFeed
-        (λ input. Prints contents (InputText SpellsAsked ClientLine (New client (number_of asking.next) asking.life_ms) input)
-        (IsFirstBadLine SpellsAsked input) before after r)
-        (λ input. FollowedUnder contents (InputText SpellsAsked ClientLine (New client (number_of asking.next) asking.life_ms) input)
-        (IsNewClient client asking) SpellsAsked ClientLine input before after r) (EndsWell r) feed };
+        (λ input. Prints contents (InputText SpellsAsking ClientLine (asking_from client asking) input)
+        (IsFirstBadLine SpellsAsking input) before after r)
+        (λ input. FollowedUnder contents (InputText SpellsAsking ClientLine (asking_from client asking) input)
+        (IsNewClient client asking) SpellsAsking ClientLine input before after r) (EndsWell r) feed };
 
     fn begin<I: Input, W: Write>(
         self,
@@ -98,27 +102,93 @@ impl Beginning for Asking {
         // For the proof alone.
         one_client_answer();
         one_datagram();
-        let mut client = Client::<16>::new(context, self.next, self.life_ms);
-        input.run(alloc, &mut client, out)
+        let common = Common::of(&context);
+        let client = Client::<16>::new(context, self.next, self.life_ms);
+        let mut end = AskingEnd { client, common };
+        input.run(alloc, &mut end, out)
     }
 }
 
-impl End for Client<16> {
-    type Event = ClientEvent;
+/// Runs an event of a client, and writes the line of its entry.
+fn follow_event<W: Write>(
+    alloc: Global,
+    client: &mut Client<16>,
+    event: &mut ClientEvent,
+    out: &mut W,
+) -> Result<(), Fault>
+    ensures { RunsEvent (λ line. (h : History) → ClientAgrees client.old h → HasRoom event.old
+        → (k : History) × EventLine h (asked_seen event.old) line k × ClientAgrees client.new k)
+        (W.contents out.old) (W.contents out.new) result }
+{
+    let entry = ask_event(client, event);
+    put_entry(alloc, &entry, out)
+}
+
+/// Puts another context in the place of a client's, and writes the line of the entry.
+fn follow_replace<W: Write>(
+    alloc: Global,
+    client: &mut Client<16>,
+    context: Context,
+    next: Piv,
+    out: &mut W,
+) -> Result<(), Fault>
+    ensures { RunsEvent (λ line. (h : History) → ClientAgrees client.old h
+        → (k : History) × ReplaceLine h (as_client context) (number_of next) line k × ClientAgrees client.new k)
+        (W.contents out.old) (W.contents out.new) result }
+{
+    match client.replace(context, next) {
+        Ok(()) => put_replaced(alloc, out),
+        Err(refusal) => put_not_done(alloc, refusal, out),
+    }
+}
+
+/// A client of a run, and what its contexts have in common.
+#[derive(Drop)]
+pub(crate) struct AskingEnd {
+    client: Client<16>,
+    common: Common,
+}
+
+/// Runs what a line asks of a client of a run, and writes the line of the entry.
+fn follow_line<W: Write>(
+    alloc: Global,
+    end: &mut AskingEnd,
+    line: &mut AskedLine,
+    out: &mut W,
+) -> Result<(), Fault>
+    ensures { RunsEvent (λ text. (h : History) → ClientAgrees end.old.client h → IsAsked line.old
+        → (k : History) × ClientLine (asking_state end.old h) (asking_seen line.old) text (asking_state end.new k) × ClientAgrees end.new.client k)
+        (W.contents out.old) (W.contents out.new) result }
+{
+    let token = Vec::new(alloc);
+    // A context is moved out of its line, which runs once.
+    let moved = mem::replace(line, AskedLine::Event(ClientEvent::Forget { token }));
+    match moved {
+        AskedLine::Event(mut event) => follow_event(alloc, &mut end.client, &mut event, out),
+        AskedLine::Replace { context, next } => {
+            let context = end.common.give(context);
+            follow_replace(alloc, &mut end.client, context, next, out)
+        }
+    }
+}
+
+impl End for AskingEnd {
+    type Event = AskedLine;
 
     type Memory = ();
 
-    ghost are_lines_of = { λ client events lines. (h : History) → ClientAgrees client h → All HasRoom events
-        → EventLines ClientLine h (map asked_seen events) lines };
+    ghost are_lines_of = { λ end events lines. (h : History) → ClientAgrees end.client h → All IsAsked events
+        → EventLines ClientLine (asking_state end h) (map asking_seen events) lines };
 
     ghost is_new = { λ none. none ≡ tt };
 
-    ghost does = { Follows ClientAgrees (λ client none h. h) asked_seen HasRoom ClientLine };
+    ghost does = { Follows (λ end h. ClientAgrees end.client h) (λ end none h. asking_state end h) asking_seen IsAsked ClientLine };
 
     fn print<W: Write>(&mut self, alloc: Global, events: &mut [Self::Event], out: &mut W) -> Done {
-        let mut log = Vec::new(alloc);
-        let ran = run_client(alloc, self, events, &mut log);
-        write_log(alloc, log.as_slice(), ran, out)
+        for event in events.iter_mut() {
+            follow_line(alloc, self, event, out)?;
+        }
+        Ok(0)
     }
 
     fn memory(_alloc: Global) {}
@@ -127,10 +197,9 @@ impl End for Client<16> {
         &mut self,
         alloc: Global,
         _memory: &mut (),
-        event: &mut ClientEvent,
+        event: &mut AskedLine,
         out: &mut W,
     ) -> Result<(), Fault> {
-        let entry = ask_event(self, event);
-        put_entry(alloc, &entry, out)
+        follow_line(alloc, self, event, out)
     }
 }

@@ -1,16 +1,17 @@
 //! What the printed entries of a server's log and of a client's log have in common. They print one per line.
 
-ghost use Rattle.std.specs.Prelude.{◌≡◌, ◌∷◌, ◌++◌, [], ℕ, List, IfOk, IsOk, map, string_bytes};
+ghost use Rattle.std.specs.Prelude.{◌≡◌, ◌∷◌, ◌++◌, [], ℕ, List, IfOk, IfSome, IsOk, map, string_bytes};
 ghost use Rattle.osc_coap.specs.Views.{options_left};
 ghost use Rattle.osc_protect.specs.Views.{message_of};
-ghost use Rattle.osc_text.specs.EntryLines.{entry_line, fault_text, message_text, more_options_text, option_text, options_text};
+ghost use Rattle.osc_text.specs.EntryLines.{entry_line, fault_text, message_text, more_options_text, not_done_line, option_text, options_text, replaced_line};
 ghost use Rattle.osc_text.specs.Written.{Writes};
 
 use crate::fault::Fault;
-use crate::lines::{bytes_text, code_text, named, put_line};
+use crate::lines::{bytes_text, code_text, named, put_line, refused_text};
 use osc_coap::{FormatError, Options};
 use osc_protect::Opened;
 use std::alloc::{AllocError, Global};
+use std::fmt::Display;
 use std::io::Write;
 
 /// A log entry, which prints as one line.
@@ -90,6 +91,25 @@ pub(crate) fn put_entry<L: LogEntry, W: Write>(
     ensures { Writes (W.contents out.old) (W.contents out.new) (entry_line (L.text_of entry.now) ∷ []) result }
 {
     put_line(alloc, entry.text(alloc), out)
+}
+
+/// Writes the line of another context in the place of an end's.
+pub(crate) fn put_replaced<W: Write>(alloc: Global, out: &mut W) -> Result<(), Fault>
+    ensures { Writes (W.contents out.old) (W.contents out.new) (replaced_line ∷ []) result }
+{
+    put_line(alloc, String::from_str(alloc, "replaced"), out)
+}
+
+/// Writes the line of what an end refused.
+pub(crate) fn put_not_done<D: Display + Drop, W: Write>(
+    alloc: Global,
+    refusal: D,
+    out: &mut W,
+) -> Result<(), Fault>
+    ensures { IfSome (D.output refusal)
+        (λ name. Writes (W.contents out.old) (W.contents out.new) (not_done_line name ∷ []) result) }
+{
+    put_line(alloc, refused_text(alloc, refusal), out)
 }
 
 /// Writes the line of each entry, in order.

@@ -34,6 +34,7 @@ mod peer_entries;
 mod peer_events;
 mod peering;
 mod protection;
+mod replacing;
 mod served_entries;
 mod serving;
 

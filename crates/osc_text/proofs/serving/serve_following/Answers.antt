@@ -3,7 +3,7 @@ use Rattle.osc_endpoint.specs.ServerAnswer.{ServerAnswer}
 use Rattle.osc_life.specs.ServerHistory.{Add, Added, Begin}
 use Rattle.osc_text.specs.Contexts.{agreed_server}
 use Rattle.osc_text.specs.Following.{StartsServer}
-use Rattle.osc_text.specs.InputEvents.{SpellsEvent}
+use Rattle.osc_text.specs.ReplaceEvents.{SpellsServing}
 use Rattle.osc_text.specs.Printing.{BeginsBadly, Prints}
 use Rattle.osc_text.specs.Serving.{ServerLine, ServerText, start_of}
 use Rattle.osc_text.proofs.FollowedTexts.{known_followed, known_two}
@@ -20,10 +20,10 @@ returns g c =
     let before = c.args.out.now in
     let after = c.write_run.new.out in
     let known = g.R.Read.remaining c.args.input.now in
-    let Whole = λ (bytes : List ℕ). Prints contents (ServerText s (start_of v) v.window bytes) (BeginsBadly (λ (i : ℕ). ServerAnswer Begin (Add s (start_of v) v.window 1) (Added i)) SpellsEvent bytes) before after r in
+    let Whole = λ (bytes : List ℕ). Prints contents (ServerText s (start_of v) v.window bytes) (BeginsBadly (λ (i : ℕ). ServerAnswer Begin (Add s (start_of v) v.window 1) (Added i)) SpellsServing bytes) before after r in
     let Starts = StartsServer s (start_of v) v.window in
     let tells = ServerText s (start_of v) v.window in
     record {
-      written = known_followed contents before after SpellsEvent ServerLine Whole p.params tells Starts known r c.write_run.ensures;
-      two = known_two contents before after SpellsEvent ServerLine Whole p.params tells Starts known r (server_two s (start_of v) v.window) c.write_run.ensures;
+      written = known_followed contents before after SpellsServing ServerLine Whole p.params tells Starts known r c.write_run.ensures;
+      two = known_two contents before after SpellsServing ServerLine Whole p.params tells Starts known r (server_two s (start_of v) v.window) c.write_run.ensures;
     }

@@ -1,4 +1,4 @@
-use Rattle.std.proofs.Common.{[], ap, refl, subst}
+use Rattle.std.proofs.Common.{◌≡◌, ◌∙◌, [], ap, map, refl, subst}
 use Rattle.osc_context.specs.Views.{as_server}
 use Rattle.osc_endpoint.specs.Agrees.{Agrees}
 use Rattle.osc_endpoint.specs.ServerAnswer.{ServerAnswer}
@@ -8,15 +8,19 @@ use Rattle.osc_life.specs.ServerHistory.{Add, Added, Begin, NotAdded, Then}
 use Rattle.osc_life.specs.Text.{add_error_text}
 use Rattle.osc_life.specs.declared.start.Start.{Start}
 use Rattle.osc_text.specs.Following.{StartsServer}
-use Rattle.osc_text.specs.InputEvents.{SpellsEvent}
+use Rattle.osc_text.specs.InputText.{EventLines}
 use Rattle.osc_text.specs.Lines.{refused_line}
-use Rattle.osc_text.specs.ServedReading.{IsOfRun, event_read, event_seen}
-use Rattle.osc_text.specs.Serving.{ServerLine, ServerText, start_of}
+use Rattle.osc_text.specs.ReplaceEvents.{SpellsServing}
+use Rattle.osc_text.specs.ReplaceReading.{IsServed, served_seen}
+use Rattle.osc_text.specs.RunEnds.{serving_state}
+use Rattle.osc_text.specs.Serving.{ServerLine, ServerText, ServingState, serving_from, start_of}
 use Rattle.osc_text.specs.Serving.ServerText.{not_started, served}
+use Rattle.osc_text.specs.declared.serving.ServingEnd.{ServingEnd}
+use Rattle.osc_context.specs.declared.features.Features.{Features}
 use Rattle.osc_text.proofs.FollowedTexts.{any_feed, begun_followed, by_feed, ends_two, ends_zero, lines_told, ran_told, refusal_followed}
-use Rattle.osc_text.proofs.InputSpellings.{one_spelling, server_inverse}
 use Rattle.osc_text.proofs.InputTexts.{input_prints}
 use Rattle.osc_text.proofs.OneServerTexts.{one_server_line}
+use Rattle.osc_text.proofs.ReplaceSpellings.{one_serving}
 use Rattle.osc_text.proofs.ServerTexts.{no_start_prints, start_prints}
 use Rattle.osc_text.proofs.serving.ServingBeginning.begin.Goals as goal
 
@@ -26,6 +30,9 @@ returns-in-Ok g c =
     let v = c.args.self in
     let i = c.in-Ok._index in
     let h = Then Begin (Add s (start_of v) v.window 1) (Added i) in
+    let end : ServingEnd = record { server = c.add.new.self; window = v.window; common = c.of-common.result } in
+    let first = serving_from s (start_of v) v.window i in
+    let begins : serving_state end [] h ≡ first = ap (λ (x : Features). (record first { features = x })) c.of-common.ensures.server in
     let law = c.one_datagram.ensures in
     let contents = g.W.Write.contents in
     let before = c.args.out.now in
@@ -35,11 +42,13 @@ returns-in-Ok g c =
     let agrees = subst (λ (start : Start). Agrees c.add.new.self (Then Begin (Add s start v.window 1) (Added i))) c.start.ensures (c.in-Ok.ensures.follows Begin c.new-server.ensures) in
     by_feed _ _ _ _ _ _ (g.I.Input.feed c.args.input)
     (λ bytes runs. start_prints c.one_server_answer.ensures contents s (start_of v) v.window bytes before after r i answer
-    (input_prints contents SpellsEvent ServerLine event_seen IsOfRun _ (one_spelling SpellsEvent event_read server_inverse) (λ t. AllAnswers t.0)
-    (one_server_line c.one_server_answer.ensures law.one law.one_fault law.never_both) (h, []) bytes before after r (tt, answer) (λ events lines told is. told h agrees is) runs))
-    (λ bytes runs. begun_followed contents before after SpellsEvent ServerLine (ServerText s (start_of v) v.window bytes) (StartsServer s (start_of v) v.window) (h, []) bytes r (i, answer, refl) (λ lines n text. served i answer text)
-    (lines_told contents before after SpellsEvent ServerLine event_seen IsOfRun _ (h, []) bytes r
-    (ran_told Agrees (λ server tickets k. (k, values_in tickets.items)) event_seen IsOfRun ServerLine _ c.add.new.self h (h, []) (λ m new. ap (λ ts. (h, values_in ts)) new) agrees) runs))
+    (input_prints contents SpellsServing ServerLine served_seen IsServed _ one_serving (λ (t : ServingState). AllAnswers t.history)
+    (one_server_line c.one_server_answer.ensures law.one law.one_fault law.never_both) first bytes before after r (tt, answer)
+    (λ events lines told is. subst (λ (t : ServingState). EventLines ServerLine t (map served_seen events) lines) begins (told h agrees is)) runs))
+    (λ bytes runs. begun_followed contents before after SpellsServing ServerLine (ServerText s (start_of v) v.window bytes) (StartsServer s (start_of v) v.window) first bytes r (i, answer, refl) (λ lines n text. served i answer text)
+    (lines_told contents before after SpellsServing ServerLine served_seen IsServed _ first bytes r
+    (ran_told (λ (e : ServingEnd) k. Agrees e.server k) (λ e tickets k. serving_state e (values_in tickets.items) k) served_seen IsServed ServerLine _ end h first
+    (λ m new. ap (λ ts. serving_state end (values_in ts) h) new ∙ begins) agrees) runs))
     (ends_zero r) c.run.ensures
 
 pub returns-in-Err : goal.returns-in-Err

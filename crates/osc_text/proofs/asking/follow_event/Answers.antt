@@ -1,7 +1,7 @@
 use Rattle.osc_text.proofs.ClientSteps.{step_is}
 use Rattle.osc_text.specs.ClientLog.{asked_line}
 use Rattle.osc_text.specs.Feeding.RunsEvent.{ran}
-use Rattle.osc_text.proofs.asking.Client16End.follow.Goals as goal
+use Rattle.osc_text.proofs.asking.follow_event.Goals as goal
 
 pub returns : goal.returns
 returns g c =

@@ -12,7 +12,7 @@ use Rattle.osc_text.specs.Feeding.RunsEvent.{ran}
 use Rattle.osc_text.specs.ServerLog.{log_line}
 use Rattle.osc_text.specs.Serving.{EventLine}
 use Rattle.osc_text.specs.ServedReading.{event_seen}
-use Rattle.osc_text.proofs.serving.ServerOf1End.follow.Goals as goal
+use Rattle.osc_text.proofs.serving.follow_event.Goals as goal
 
 pub returns : goal.returns
 returns g c =
