@@ -81,14 +81,16 @@ OSCORE_ASSERT(sizeof(bool) == 1, "a bool has 1 byte");
    What no call can see is left to the caller: a pointer leads to as many bytes as the length beside it says, or to a whole struct, and stays so
    until the call returns; until then nobody else writes there, no thread, no signal handler and no device, since a call checks a datagram and
    then reads it a second time; what a call writes (`out`, `datagram`, `options`, `opened`, `head`, `index`, `ticket`, `out_len`, `record`,
-   `detail`, `name`, `sizes`, `peer`, `pending`, `pending_count`, `request`, `state`, `clock`) overlaps nothing else that it is given; a struct is
-   set to zero before it is given for the first time; a `bool` is 0 or 1. A pointer may be NULL where the length beside it is 0; `detail`, and
-   `request` of `oscore_peer_hear`, where you don't want to know; and nothing else. */
+   `detail`, `name`, `sizes`, `peer`, `pending`, `pending_count`, `request`, `state`, `clock`, and `scheme` and `scheme_len` of
+   `oscore_split_proxy_uri`) overlaps nothing else that it is given; a struct is set to zero before it is given for the first time; a `bool` is
+   0 or 1. A pointer may be NULL where the length beside it is 0; `detail`, and `request` of `oscore_peer_hear`, where you don't want to know;
+   and nothing else. */
 
 /* What a call answers: 0 where it is done, else the first refusal whose condition holds, in the order of this list. OSCORE_SAVE_FIRST alone,
-   and OSCORE_LIVES_EXHAUSTED in its place, come elsewhere from `oscore_peer_take`, which says where. A call that refuses writes `detail`: the
-   place of a datagram's fault in bytes from 0, the number of an option, the index of one that was handed in, or 0. It leaves `out`, `out_len`,
-   `options`, `opened`, `head`, `index`, `ticket`, `request`, `record` and the peer as they were; where a call does more, it says so. */
+   and OSCORE_LIVES_EXHAUSTED in its place, come elsewhere from `oscore_peer_take`, which says where; `oscore_split_proxy_uri` and
+   `oscore_ask_proxy` say their own order. A call that refuses writes `detail`: the place of a datagram's fault in bytes from 0, the number of
+   an option, the index of one that was handed in, or 0. It leaves `out`, `out_len`, `options`, `opened`, `head`, `index`, `ticket`, `request`,
+   `scheme`, `scheme_len`, `record` and the peer as they were; where a call does more, it says so. */
 typedef enum oscore_status {
     OSCORE_DONE = 0,
     OSCORE_BUSY = 1,               /* another call of this peer runs, in another thread, or below a signal handler or an interrupt */
@@ -134,9 +136,21 @@ typedef enum oscore_status {
     OSCORE_TOKEN_IN_USE = 40,      /* a request with this token is pending, and gives no way to this one */
     OSCORE_PENDING_FULL = 41,      /* as many requests are pending as there are places */
     OSCORE_SEQUENCE_EXHAUSTED = 42, /* no Sender Sequence Number below 2^40 is left */
-    OSCORE_TOO_LONG = 43,          /* the sealed message would have more than 65,535 bytes */
+    OSCORE_TOO_LONG = 43,          /* the message would have more than 65,535 bytes */
     OSCORE_NO_ROOM = 44,           /* the buffer is shorter than the message */
     OSCORE_NOT_PENDING = 45,       /* no request with this token is pending */
+    OSCORE_NOT_ONE_PROXY_URI = 46, /* the request has no Proxy-Uri, or more than one */
+    OSCORE_MIXED = 47,             /* it has Proxy-Uri, and also Uri-Host, Uri-Port, Uri-Path, Uri-Query or Proxy-Scheme */
+    OSCORE_SCHEME = 48,            /* from here to OSCORE_PORT: Proxy-Uri is no URI of CoAP. It begins neither with coap: nor with coaps: */
+    OSCORE_FRAGMENT = 49,          /* it has a fragment */
+    OSCORE_CHARACTER = 50,         /* a byte isn't one of a URI, or a percent sign lacks its two digits */
+    OSCORE_AUTHORITY = 51,         /* no two slashes follow the scheme */
+    OSCORE_USERINFO = 52,          /* user information stands in front of the host */
+    OSCORE_HOST = 53,              /* no host, or its bracket isn't closed */
+    OSCORE_PORT = 54,              /* what follows the host isn't a colon and a number of at most 65,535 */
+    OSCORE_PART_TOO_LONG = 55,     /* the host, a segment or an argument stands for more than 255 bytes */
+    OSCORE_ASKED = 56,             /* the request has Proxy-Uri or Proxy-Scheme already */
+    OSCORE_SCHEME_LENGTH = 57,     /* the scheme has no byte, or more than 255 */
     OSCORE_STATUS_WIDTH = 0x7fffffff /* no call answers this: it gives the type its 4 bytes under -fshort-enums too */
 } oscore_status;
 
@@ -375,6 +389,10 @@ void oscore_status_name(uint32_t status, char name[24]);
 oscore_status oscore_write_message_v5(uint8_t kind, uint8_t code, uint16_t message_id, const uint8_t *token, oscore_size token_len,
                                       const oscore_option *options, oscore_size option_count, const uint8_t *payload, oscore_size payload_len,
                                       uint8_t *out, oscore_size out_room, oscore_size *out_len, oscore_size *detail);
+oscore_status oscore_split_proxy_uri_v6(const uint8_t *plain, oscore_size plain_len, uint8_t *out, oscore_size out_room, oscore_size *out_len,
+                                        uint8_t scheme[5], oscore_size *scheme_len, oscore_size *detail);
+oscore_status oscore_ask_proxy_v6(const uint8_t *sealed, oscore_size sealed_len, const uint8_t *scheme, oscore_size scheme_len, uint8_t *out,
+                                  oscore_size out_room, oscore_size *out_len, oscore_size *detail);
 oscore_status oscore_head_v5(const uint8_t *datagram, oscore_size datagram_len, oscore_request_head *head, oscore_size *detail);
 oscore_status oscore_seal_request_v5(const oscore_context *context, uint64_t number, const uint8_t *plain, oscore_size plain_len, uint8_t *out,
                                      oscore_size out_room, oscore_size *out_len, oscore_size *detail);
@@ -532,6 +550,41 @@ OSCORE_MUST_USE static inline oscore_status oscore_open_response(const oscore_co
     OSCORE_SLOT oscore_size unwanted;
     if (!detail) detail = &unwanted;
     return oscore_open_response_v5(context, request, datagram, datagram_len, options, options_room, opened, detail);
+}
+
+/* A forward proxy. It has to read where a request goes, and by which scheme, so that isn't protected (RFC 8613, 4.1.3.3), and no call seals
+   a request with Proxy-Uri (35) or Proxy-Scheme (39). A plain request with Proxy-Uri is split by `oscore_split_proxy_uri`, then sealed, by
+   `oscore_peer_request` or `oscore_seal_request`, and then `oscore_ask_proxy` puts the scheme in. One that has Uri-Host and Uri-Port, and no
+   Proxy-Uri, is sealed as it is, without Proxy-Scheme, which `oscore_ask_proxy` puts in. To send a request again, send what that wrote. */
+
+/* Splits the Proxy-Uri of a plain request, before it is sealed, into Uri-Host, Uri-Port, Uri-Path and Uri-Query, which say the same (RFC
+   7252, 5.10.2 and 6.4). `plain` is its datagram. The first `out_len` bytes of `out` are the request to seal: all else stays, and Uri-Port is
+   there also where the URI names no port, with 5683 for coap and 5684 for coaps. The first `scheme_len` bytes of `scheme` are the URI's
+   scheme, "coap" or "coaps", for `oscore_ask_proxy`.
+   Refused is, in this order: what is no CoAP message; what is no request (OSCORE_NOT_THAT_KIND); one with no Proxy-Uri, or more than one
+   (OSCORE_NOT_ONE_PROXY_URI); one that says otherwise too where it goes (OSCORE_MIXED); what is no URI of CoAP, by the first of OSCORE_SCHEME
+   to OSCORE_PORT; an option that would have more than 255 bytes (OSCORE_PART_TOO_LONG); a request of more than 65,535 bytes
+   (OSCORE_TOO_LONG); and one that is longer than `out` (OSCORE_NO_ROOM). */
+OSCORE_MUST_USE static inline oscore_status oscore_split_proxy_uri(const uint8_t *plain, oscore_size plain_len, uint8_t *out, oscore_size out_room,
+                                                                   oscore_size *out_len, uint8_t scheme[5], oscore_size *scheme_len,
+                                                                   oscore_size *detail) {
+    OSCORE_SLOT oscore_size unwanted;
+    if (!detail) detail = &unwanted;
+    return oscore_split_proxy_uri_v6(plain, plain_len, out, out_room, out_len, scheme, scheme_len, detail);
+}
+
+/* Puts Proxy-Scheme into a sealed request, which asks a forward proxy to send it on by this scheme (RFC 7252, 5.10.2). The first `out_len`
+   bytes of `out` are the request to send; the scheme's length and 3 bytes more than the sealed request has are enough for it. All else stays.
+   A proxy takes Proxy-Scheme out again, so that the request opens at the other end.
+   Refused is, in this order: what is no CoAP message; what is no request (OSCORE_NOT_THAT_KIND); one that has Proxy-Uri or Proxy-Scheme
+   (OSCORE_ASKED); a scheme without a byte, or of more than 255 (OSCORE_SCHEME_LENGTH); a request of more than 65,535 bytes (OSCORE_TOO_LONG);
+   and one that is longer than `out` (OSCORE_NO_ROOM). Whether the request is sealed isn't looked at. */
+OSCORE_MUST_USE static inline oscore_status oscore_ask_proxy(const uint8_t *sealed, oscore_size sealed_len, const uint8_t *scheme,
+                                                             oscore_size scheme_len, uint8_t *out, oscore_size out_room, oscore_size *out_len,
+                                                             oscore_size *detail) {
+    OSCORE_SLOT oscore_size unwanted;
+    if (!detail) detail = &unwanted;
+    return oscore_ask_proxy_v6(sealed, sealed_len, scheme, scheme_len, out, out_room, out_len, detail);
 }
 
 /* A peer. A call that needs a number that isn't saved answers OSCORE_SAVE_FIRST, writes the record to save, and leaves all else as it was: the

@@ -73,6 +73,18 @@ WRAP(write_message_v5, oscore_status, (uint8_t kind, uint8_t code, uint16_t mess
                                        out_len, detail);
 }
 
+WRAP(split_proxy_uri_v6, oscore_status, (const uint8_t *plain, oscore_size plain_len, uint8_t *out, oscore_size out_room, oscore_size *out_len,
+                                         uint8_t scheme[5], oscore_size *scheme_len, oscore_size *detail)) {
+    BYTES(plain), SOME(out, out_room), STRUCT(out_len), SOME(scheme, 5), STRUCT(scheme_len), STRUCT(detail);
+    return __real_oscore_split_proxy_uri_v6(plain, plain_len, out, out_room, out_len, scheme, scheme_len, detail);
+}
+
+WRAP(ask_proxy_v6, oscore_status, (const uint8_t *sealed, oscore_size sealed_len, const uint8_t *scheme, oscore_size scheme_len, uint8_t *out,
+                                   oscore_size out_room, oscore_size *out_len, oscore_size *detail)) {
+    BYTES(sealed), BYTES(scheme), SOME(out, out_room), STRUCT(out_len), STRUCT(detail);
+    return __real_oscore_ask_proxy_v6(sealed, sealed_len, scheme, scheme_len, out, out_room, out_len, detail);
+}
+
 WRAP(head_v5, oscore_status, (const uint8_t *datagram, oscore_size datagram_len, oscore_request_head *head, oscore_size *detail)) {
     BYTES(datagram), STRUCT(head), STRUCT(detail);
     return __real_oscore_head_v5(datagram, datagram_len, head, detail);

@@ -308,9 +308,11 @@ static void names_statuses(void) {
         "DatagramTooLong", "Short", "Version", "TokenLength", "EmptyWithRest", "TokenCut", "Nibble15", "OptionCut", "NumberTooLarge",
         "EmptyPayload", "OptionOrder", "ValueTooLong", "StaleTicket", "SaveFirst", "LivesExhausted", "TicketSpent", "NotObserving",
         "NotThatKind", "UnknownToken", "NoOscore", "Undecodable", "NoContext", "WrongContext", "Replay", "Old", "Tag", "Inner", "Challenge",
-        "Unsupported", "NotNotification", "TokenInUse", "PendingFull", "SequenceExhausted", "TooLong", "NoRoom", "NotPending", "Unknown"};
+        "Unsupported", "NotNotification", "TokenInUse", "PendingFull", "SequenceExhausted", "TooLong", "NoRoom", "NotPending",
+        "NotOneProxyUri", "Mixed", "Scheme", "Fragment", "Character", "Authority", "Userinfo", "Host", "Port", "PartTooLong", "Asked",
+        "SchemeLength", "Unknown"};
     char *name = guarded_room(NAME, 24);
-    for (uint32_t status = 0; status <= OSCORE_NOT_PENDING + 1; status++) {
+    for (uint32_t status = 0; status <= OSCORE_SCHEME_LENGTH + 1; status++) {
         oscore_status_name(status, name);
         CHECK(!strcmp(name, NAMES[status]));
     }

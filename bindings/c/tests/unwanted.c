@@ -18,6 +18,7 @@
 
 static const uint8_t SECRET[16] = {1, 2, 3, 4, 5, 6, 7, 8, 9, 10, 11, 12, 13, 14, 15, 16}, CLIENT = 0, SERVER = 1, TOKEN = 0x4a;
 static const uint8_t REGISTER[6] = {0x41, 1, 0, 1, 0x4a, 0x60}, NOTE[6] = {0x61, 0x45, 0, 1, 0x4a, 0x60}, CONTENT[5] = {0x61, 0x45, 0, 1, 0x4a};
+static const uint8_t ROUTED[14] = {0x40, 1, 0, 1, 0xd8, 22, 'c', 'o', 'a', 'p', ':', '/', '/', 'h'};
 
 /* One end: its peer, and what its calls are given. What the call with NULL left is kept beside what it began with. */
 typedef struct end {
@@ -70,8 +71,14 @@ static void send_to(end *other, const end *from) {
 static void messages(void) {
     oscore_request_head head = OSCORE_ZERO;
     oscore_option unordered[2] = {{60, NULL, 0}, {11, NULL, 0}};
+    uint8_t scheme[5];
+    oscore_size scheme_len;
     BOTH(OSCORE_OPTION_ORDER, oscore_write_message(0, 1, 1, NULL, 0, unordered, 2, NULL, 0, key.out, 128, &key.out_len, detail));
     BOTH(OSCORE_DONE, oscore_write_message(0, 1, 1, &TOKEN, 1, unordered, 1, NULL, 0, key.out, 128, &key.out_len, detail));
+    BOTH(OSCORE_NOT_ONE_PROXY_URI, oscore_split_proxy_uri(REGISTER, 6, key.out, 128, &key.out_len, scheme, &scheme_len, detail));
+    BOTH(OSCORE_DONE, oscore_split_proxy_uri(ROUTED, sizeof ROUTED, key.out, 128, &key.out_len, scheme, &scheme_len, detail));
+    BOTH(OSCORE_SCHEME_LENGTH, oscore_ask_proxy(REGISTER, 6, NULL, 0, key.out, 128, &key.out_len, detail));
+    BOTH(OSCORE_DONE, oscore_ask_proxy(REGISTER, 6, scheme, scheme_len, key.out, 128, &key.out_len, detail));
     BOTH(OSCORE_SHORT, oscore_seal_request(&key_context, 20, CONTENT, 3, key.out, 128, &key.out_len, detail));
     BOTH(OSCORE_DONE, oscore_seal_request(&key_context, 20, REGISTER, 5, key.out, 128, &key.out_len, detail));
     send_to(&lock, &key);

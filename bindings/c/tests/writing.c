@@ -178,7 +178,7 @@ static void names_statuses(void) {
     CHECK(!strcmp(name, "OptionOrder"));
     oscore_status_name(OSCORE_VALUE_TOO_LONG, name);
     CHECK(!strcmp(name, "ValueTooLong"));
-    oscore_status_name(OSCORE_NOT_PENDING + 1, name);
+    oscore_status_name(OSCORE_SCHEME_LENGTH + 1, name);
     CHECK(!strcmp(name, "Unknown"));
 }
 

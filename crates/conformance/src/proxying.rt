@@ -2,7 +2,7 @@
 
 use crate::answer::Answer;
 use crate::fields::Fields;
-use osc_proxy::{Components, ProxyUri, UriScheme, ask_proxy, percent_decoded, split_proxy_uri};
+use osc_proxy::{Components, ProxyUri, ask_proxy, percent_decoded, split_proxy_uri};
 use std::fmt::Display;
 
 /// What a buffer is filled with.
@@ -24,21 +24,13 @@ pub(crate) fn ask(fields: &Fields<'_>, answer: &mut Answer) {
     }
 }
 
-/// Shows a scheme.
-fn scheme(scheme: UriScheme, answer: &mut Answer) {
-    answer.word(match scheme {
-        UriScheme::Coap => "coap",
-        UriScheme::Coaps => "coaps",
-    });
-}
-
 /// Splits the Proxy-Uri of a request, and shows the scheme and the bytes.
 pub(crate) fn split(fields: &Fields<'_>, answer: &mut Answer) {
     fields.count(2);
     let mut buf = fields.room(0, FILLED_WITH);
     match split_proxy_uri(fields.bytes(1), buf.as_mut_slice()) {
         Ok((len, of)) => {
-            scheme(of, answer);
+            answer.word(of.name());
             answer.written(buf.as_slice(), len, FILLED_WITH);
         }
         Err(refusal) => refused(refusal, buf.as_slice(), answer),
@@ -56,7 +48,7 @@ fn parts(parts: Components<'_>, answer: &mut Answer) {
 
 /// Shows what a URI says.
 fn uri(uri: &ProxyUri<'_>, answer: &mut Answer) {
-    scheme(uri.scheme, answer);
+    answer.word(uri.scheme.name());
     answer.bytes(uri.host);
     match uri.host_value() {
         Ok(value) => answer.bytes(value.as_slice()),

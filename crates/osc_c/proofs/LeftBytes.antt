@@ -10,9 +10,9 @@ use Rattle.osc_protect.specs.declared.unprotect_error.UnprotectError.TheVariants
 use Rattle.osc_c.specs.Calls.{RefusesOpening}
 use Rattle.osc_c.specs.Calls.RefusesOpening.{bad_handle, bad_number, refused}
 use Rattle.osc_c.specs.Opened.{LeavesRequestIn, LeavesResponseIn}
-use Rattle.osc_c.specs.Statuses.{format_status, open_status}
-use Rattle.osc_c.specs.declared.status.Status.{Status}
-use Rattle.osc_c.specs.declared.status.Status.TheVariants.{Inner}
+use Rattle.osc_status.specs.Statuses.{format_status, open_status}
+use Rattle.osc_status.specs.declared.status.Status.{Status}
+use Rattle.osc_status.specs.declared.status.Status.TheVariants.{Inner}
 
 no_fault : (fault : Fault) → format_status fault ≢ Inner
 no_fault faults.DatagramTooLong = λ h. cc

@@ -1,6 +1,5 @@
 mod Moved
 mod LeftBytes
-mod Names
 mod OptionLists
 mod Unwritten
 mod Room

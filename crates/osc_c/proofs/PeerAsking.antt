@@ -24,8 +24,8 @@ use Rattle.osc_c.specs.Opened.{Shows}
 use Rattle.osc_c.specs.declared.opened_view.OpenedView.{OpenedView}
 use Rattle.osc_c.specs.PeerAskingCalls.{PeerAnswersBy, RefusesPeerAsking, StepsAmong, TakesAmong}
 use Rattle.osc_c.specs.PeerAskingCalls.RefusesPeerAsking.{bad_handle, malformed, save_first, refused}
-use Rattle.osc_c.specs.Statuses.{code, format_status}
-use Rattle.osc_c.specs.declared.status.Status.{Status}
+use Rattle.osc_status.specs.Statuses.{code, format_status}
+use Rattle.osc_status.specs.declared.status.Status.{Status}
 
 -- what is shown has the status of the answer
 says_too : (outcome : ClientOutcome) (answer : Answer) (status : Status) (detail : ℕ) → ClientShows outcome answer → IsOutcomeStatus outcome status detail → IsAnswerStatus answer status detail

@@ -33,9 +33,9 @@ use Rattle.osc_c.specs.PeerCalls.RefusesPeerNotifying.{bad_handle as notify_hand
 use Rattle.osc_c.specs.PeerCalls.RefusesPeerReplying.{bad_handle as reply_handle, malformed as reply_malformed, save_first as reply_first, spent as reply_spent, refused as reply_refused}
 use Rattle.osc_c.specs.PeerCalls.RefusesPeerServing.{bad_handle as serve_handle, save_first as serve_first, keep_first as serve_keep, refused as serve_refused}
 use Rattle.osc_c.specs.Answering as serves
-use Rattle.osc_c.specs.Statuses.{code}
-use Rattle.osc_c.specs.declared.status.Status.{Status}
-use Rattle.osc_c.specs.declared.status.Status.TheVariants.{LivesExhausted, SaveFirst}
+use Rattle.osc_status.specs.Statuses.{code}
+use Rattle.osc_status.specs.declared.status.Status.{Status}
+use Rattle.osc_status.specs.declared.status.Status.TheVariants.{LivesExhausted, SaveFirst}
 
 -- ---- numbers are passed over in one way
 

@@ -34,8 +34,8 @@ use Rattle.osc_c.specs.PeerCalls.{PeerTakesBy, RefusesPeerNotifying, RefusesPeer
 use Rattle.osc_c.specs.PeerCalls.RefusesPeerNotifying.{bad_handle as notify_handle, malformed as notify_malformed, save_first as notify_first, refused as notify_refused}
 use Rattle.osc_c.specs.PeerCalls.RefusesPeerReplying.{bad_handle as reply_handle, malformed as reply_malformed, save_first as reply_first, spent as reply_spent, refused as reply_refused}
 use Rattle.osc_c.specs.Answering.{IsAnswerStatus, IsOutcomeStatus}
-use Rattle.osc_c.specs.Statuses.{code, format_status}
-use Rattle.osc_c.specs.declared.status.Status.{Status}
+use Rattle.osc_status.specs.Statuses.{code, format_status}
+use Rattle.osc_status.specs.declared.status.Status.{Status}
 
 -- the Echo value of a peer's challenge, and the message ID
 abbrev pub fresh_of : PeerHandle → ℕ → Fresh

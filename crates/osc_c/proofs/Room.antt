@@ -35,9 +35,9 @@ use Rattle.osc_c.specs.PeerAskingCalls.RefusesPeerAsking.{bad_handle as ask_hand
 use Rattle.osc_c.specs.PeerCalls.{AsksToSave, RefusesPeerNotifying, RefusesPeerReplying}
 use Rattle.osc_c.specs.PeerCalls.RefusesPeerNotifying.{bad_handle as notify_handle, malformed as notify_malformed, save_first as notify_first, refused as notify_refused}
 use Rattle.osc_c.specs.PeerCalls.RefusesPeerReplying.{bad_handle as reply_handle, malformed as reply_malformed, save_first as reply_first, spent as reply_spent, refused as reply_refused}
-use Rattle.osc_c.specs.Statuses.{code, format_status}
-use Rattle.osc_c.specs.declared.status.Status.{Status}
-use Rattle.osc_c.specs.declared.status.Status.TheVariants.{StaleTicket}
+use Rattle.osc_status.specs.Statuses.{code, format_status}
+use Rattle.osc_status.specs.declared.status.Status.{Status}
+use Rattle.osc_status.specs.declared.status.Status.TheVariants.{StaleTicket}
 
 -- ---- what the room says
 

@@ -6,8 +6,8 @@ use Rattle.osc_coap.specs.Laws.{DatagramHasItsLength, OptionsAscend}
 use Rattle.osc_coap.specs.OptionSpelling.{Ascends, Entry, marked, spelling_length}
 use Rattle.osc_c.specs.Writing.{HaveLengths, IsFirstBad, RefusesWriting, Says, SaysWhich, Unless}
 use Rattle.osc_c.specs.Writing.Unless.{here, further}
-use Rattle.osc_c.specs.declared.status.Status.{Status}
-use Rattle.osc_c.specs.declared.status.Status.TheVariants.{BadNumber, TokenLength, EmptyWithRest, OptionOrder, ValueTooLong, NoRoom}
+use Rattle.osc_status.specs.declared.status.Status.{Status}
+use Rattle.osc_status.specs.declared.status.Status.TheVariants.{BadNumber, TokenLength, EmptyWithRest, OptionOrder, ValueTooLong, NoRoom}
 
 -- ---- one refusal
 

@@ -5,9 +5,9 @@ use Rattle.osc_life.specs.declared.outcome.Outcome.{Outcome}
 use Rattle.osc_life.specs.declared.outcome.Outcome.TheVariants as outcomes
 use Rattle.osc_life.specs.declared.server_error.ReplyError.{ReplyError}
 use Rattle.osc_life.specs.declared.server_error.ReplyError.TheVariants as replies
-use Rattle.osc_c.specs.Statuses.{code, format_status}
-use Rattle.osc_c.specs.declared.status.Status.{Status}
-use Rattle.osc_c.specs.declared.status.Status.TheVariants.{StaleTicket, NotThatKind, NoOscore, Undecodable, NoContext, Replay, Tag, Inner, Challenge, Unsupported, SequenceExhausted, TooLong, NoRoom, NotObserving, NotNotification}
+use Rattle.osc_status.specs.Statuses.{code, format_status}
+use Rattle.osc_status.specs.declared.status.Status.{Status}
+use Rattle.osc_status.specs.declared.status.Status.TheVariants.{StaleTicket, NotThatKind, NoOscore, Undecodable, NoContext, Replay, Tag, Inner, Challenge, Unsupported, SequenceExhausted, TooLong, NoRoom, NotObserving, NotNotification}
 
 -- a refusal to reply or to notify has the status of its name, and the number of the option as its detail, or else 0; no end of C has a keeper (own rule)
 abbrev pub IsReplyStatus : ReplyError → Status → ℕ → Type 0

@@ -8,9 +8,9 @@ use Rattle.osc_client.specs.declared.client_outcome.ClientOutcome.{ClientOutcome
 use Rattle.osc_client.specs.declared.client_outcome.ClientOutcome.TheVariants as outcomes
 use Rattle.osc_client.specs.declared.client_outcome.RequestError.{RequestError}
 use Rattle.osc_client.specs.declared.client_outcome.RequestError.TheVariants as requests
-use Rattle.osc_c.specs.Statuses.{code, format_status}
-use Rattle.osc_c.specs.declared.status.Status.{Status}
-use Rattle.osc_c.specs.declared.status.Status.TheVariants.{BadHandle, BadNumber, NotThatKind, UnknownToken, NoOscore, Undecodable, Tag, Inner, Unsupported, TokenInUse, PendingFull, SequenceExhausted, TooLong, NoRoom, NotPending, Old as OldStatus}
+use Rattle.osc_status.specs.Statuses.{code, format_status}
+use Rattle.osc_status.specs.declared.status.Status.{Status}
+use Rattle.osc_status.specs.declared.status.Status.TheVariants.{BadHandle, BadNumber, NotThatKind, UnknownToken, NoOscore, Undecodable, Tag, Inner, Unsupported, TokenInUse, PendingFull, SequenceExhausted, TooLong, NoRoom, NotPending, Old as OldStatus}
 
 -- why an end doesn't begin (own rule)
 pub data RefusesNumber (IsHandle IsNumber : Type 0) (status : Status) : Type 0 where

@@ -10,9 +10,9 @@ use Rattle.osc_protect.specs.Refusals.{RefusesToOpen}
 use Rattle.osc_protect.specs.SealRefusals.{RefusesToSeal}
 use Rattle.osc_protect.specs.declared.protect_error.ProtectError.{ProtectError}
 use Rattle.osc_protect.specs.declared.unprotect_error.UnprotectError.{UnprotectError}
-use Rattle.osc_c.specs.Statuses.{format_status, open_detail, open_status, seal_detail, seal_status}
-use Rattle.osc_c.specs.declared.status.Status.{Status}
-use Rattle.osc_c.specs.declared.status.Status.TheVariants.{BadHandle, BadNumber}
+use Rattle.osc_status.specs.Statuses.{format_status, open_detail, open_status, seal_detail, seal_status}
+use Rattle.osc_status.specs.declared.status.Status.{Status}
+use Rattle.osc_status.specs.declared.status.Status.TheVariants.{BadHandle, BadNumber}
 
 -- the response's own Partial IV, if one is given, is one that a Partial IV can hold (RFC 8613, 5)
 abbrev pub IsOwnPartialIv : Bool → ℕ → Type 0

@@ -1,5 +1,4 @@
 pub mod Handle
-pub mod Statuses
 pub mod Calls
 pub mod Opened
 pub mod Asking

@@ -14,8 +14,8 @@ use Rattle.osc_protect.specs.declared.stages.DecryptedResponse.{DecryptedRespons
 use Rattle.osc_c.specs.declared.head_view.HeadView.{HeadView}
 use Rattle.osc_c.specs.declared.opened_view.OpenedView.{OpenedView}
 use Rattle.osc_c.specs.declared.opened_view.OptionView.{OptionView}
-use Rattle.osc_c.specs.declared.status.Status.{Status}
-use Rattle.osc_c.specs.declared.status.Status.TheVariants.{Inner}
+use Rattle.osc_status.specs.declared.status.Status.{Status}
+use Rattle.osc_status.specs.declared.status.Status.TheVariants.{Inner}
 
 -- number and value of an option that C reads (how the code is seen)
 abbrev pub option_in : OptionView → Entry

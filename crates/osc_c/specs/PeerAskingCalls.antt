@@ -17,9 +17,9 @@ use Rattle.osc_peer_handle.specs.declared.peer_handle.PeerHandle.{PeerHandle}
 use Rattle.osc_peer_handle.specs.declared.record_handle.RecordHandle.{RecordHandle}
 use Rattle.osc_c.specs.Asking.{IsAnswerStatus, IsAskingStatus}
 use Rattle.osc_c.specs.PeerCalls.{AsksToSave}
-use Rattle.osc_c.specs.Statuses.{format_status}
-use Rattle.osc_c.specs.declared.status.Status.{Status}
-use Rattle.osc_c.specs.declared.status.Status.TheVariants.{BadHandle, NotPending}
+use Rattle.osc_status.specs.Statuses.{format_status}
+use Rattle.osc_status.specs.declared.status.Status.{Status}
+use Rattle.osc_status.specs.declared.status.Status.TheVariants.{BadHandle, NotPending}
 
 -- with these requests pending, the bytes have these numbers, and their client is as its history says; there is room for as many requests as places (RFC 8613, 8.1)
 abbrev pub AsksAmong : PeerHandle → ℕ → List PendingHandle → Own → History → Type 0

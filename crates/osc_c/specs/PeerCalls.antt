@@ -23,9 +23,9 @@ use Rattle.osc_peer_handle.specs.RecordBytes.{IsRecordOf}
 use Rattle.osc_peer_handle.specs.declared.peer_handle.PeerHandle.{PeerHandle}
 use Rattle.osc_peer_handle.specs.declared.record_handle.RecordHandle.{RecordHandle}
 use Rattle.osc_c.specs.Answering.{IsAnswerStatus, IsReplyStatus}
-use Rattle.osc_c.specs.Statuses.{format_status}
-use Rattle.osc_c.specs.declared.status.Status.{Status}
-use Rattle.osc_c.specs.declared.status.Status.TheVariants.{BadHandle, BadNumber, LivesExhausted, OldRecord, SaveFirst, SequenceExhausted, TicketSpent}
+use Rattle.osc_status.specs.Statuses.{format_status}
+use Rattle.osc_status.specs.declared.status.Status.{Status}
+use Rattle.osc_status.specs.declared.status.Status.TheVariants.{BadHandle, BadNumber, LivesExhausted, OldRecord, SaveFirst, SequenceExhausted, TicketSpent}
 
 -- the record to save next, if it has these numbers (RFC 8613, 7.4 and B.1.1)
 abbrev pub next_record : PeerHandle → ℕ → ℕ → RecordHandle

@@ -7,9 +7,9 @@ use Rattle.osc_protect.specs.Refusals.{Names}
 use Rattle.osc_protect.specs.declared.head_error.HeadError.{HeadError}
 use Rattle.osc_context_handle.specs.ContextBytes.{IsContext, server_in}
 use Rattle.osc_c.specs.declared.guarded_peer.GuardedPeer.{GuardedPeer}
-use Rattle.osc_c.specs.Statuses.{head_detail, head_status}
-use Rattle.osc_c.specs.declared.status.Status.{Status}
-use Rattle.osc_c.specs.declared.status.Status.TheVariants.{NoContext}
+use Rattle.osc_status.specs.Statuses.{head_detail, head_status}
+use Rattle.osc_status.specs.declared.status.Status.{Status}
+use Rattle.osc_status.specs.declared.status.Status.TheVariants.{NoContext}
 
 -- there is a peer at this index, whose context's bytes a call may have written, and this holds of that context (own rule)
 abbrev pub HoldsAt : List GuardedPeer → ℕ → (SecurityContext → Type 0) → Type 0

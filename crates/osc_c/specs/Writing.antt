@@ -8,8 +8,8 @@ use Rattle.osc_coap.specs.OptionSpelling.{Ascends, Entry}
 use Rattle.osc_coap.specs.Writing.{HasRoom}
 use Rattle.osc_c.specs.Opened.{option_in}
 use Rattle.osc_c.specs.declared.opened_view.OptionView.{OptionView}
-use Rattle.osc_c.specs.declared.status.Status.{Status}
-use Rattle.osc_c.specs.declared.status.Status.TheVariants.{BadNumber, TokenLength, EmptyWithRest, OptionOrder, ValueTooLong, NoRoom}
+use Rattle.osc_status.specs.declared.status.Status.{Status}
+use Rattle.osc_status.specs.declared.status.Status.TheVariants.{BadNumber, TokenLength, EmptyWithRest, OptionOrder, ValueTooLong, NoRoom}
 
 -- the kind that has this number; own rule: also a reset for each number above 3, with which nothing is written (RFC 7252, 3)
 abbrev pub kind_at : ℕ → Kind

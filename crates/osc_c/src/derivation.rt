@@ -6,11 +6,11 @@ ghost use Rattle.osc_context.specs.Views.{as_client, client_context_of, is_const
 ghost use Rattle.osc_context.specs.declared.context_error.ContextError.{ContextError};
 ghost use Rattle.osc_c.specs.Handle.{allowing, given};
 ghost use Rattle.osc_context_handle.specs.ContextBytes.{client_in, is_constant_time_in, IsContext};
-ghost use Rattle.osc_c.specs.Statuses.{code, context_status};
+ghost use Rattle.osc_status.specs.Statuses.{code, context_status};
 
-use crate::status::{DONE, Status};
 use osc_context::{Context, Features, Params};
 use osc_handle::ContextHandle;
+use osc_status::{DONE, Status};
 
 /// Derives a context by HKDF (RFC 8613, 3.2.1) and writes it into the handle. Without `has_id_context` there is no ID Context,
 /// whatever the bytes of `id_context` are. The keys of the context are used in constant time, but with `tables` by the cipher with tables.

@@ -5,11 +5,11 @@ ghost use Rattle.osc_protect.specs.Head.{Head, HasNoRequestHead, HasRequestHead}
 ghost use Rattle.osc_protect.specs.declared.head_error.HeadError.{HeadError as HeadErrorOf};
 ghost use Rattle.osc_protect.specs.Views.{seen_head};
 ghost use Rattle.osc_c.specs.Opened.{ShowsHead};
-ghost use Rattle.osc_c.specs.Statuses.{code, head_detail, head_status};
+ghost use Rattle.osc_status.specs.Statuses.{code, head_detail, head_status};
 
 use crate::opened_view::kind_code;
-use crate::status::{DONE, Refusal};
 use osc_protect::{RequestHead, head_of_request};
+use osc_status::{DONE, Refusal};
 
 /// The head of a protected request. None of it counts as protected yet. Its slices lie in the datagram.
 #[repr(C)]

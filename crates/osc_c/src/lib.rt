@@ -6,15 +6,16 @@
 mod derivation;
 mod guarded_peer;
 mod head_view;
+mod names;
 mod opened_view;
 mod opening;
 mod peer;
 mod peer_answering;
 mod peer_asking;
 mod peer_finding;
+mod proxies;
 mod refusals;
 mod sealing;
 mod separating;
 mod sizes;
-mod status;
 mod writing;

@@ -10,14 +10,14 @@ ghost use Rattle.osc_protect.specs.declared.opened.Opened.{Opened as OpenedOf};
 ghost use Rattle.osc_c.specs.Calls.{RefusesOpening};
 ghost use Rattle.osc_context_handle.specs.ContextBytes.{client_in, server_in, IsContext};
 ghost use Rattle.osc_c.specs.Opened.{LeavesRequestIn, LeavesResponseIn, option_in, Shows};
-ghost use Rattle.osc_c.specs.Statuses.{code};
-ghost use Rattle.osc_c.specs.declared.status.Status.{Status as StatusOf};
+ghost use Rattle.osc_status.specs.Statuses.{code};
+ghost use Rattle.osc_status.specs.declared.status.Status.{Status as StatusOf};
 
 use crate::opened_view::{OpenedView, OptionView, show};
-use crate::status::{DONE, Refusal, Status};
 use osc_context::Piv;
 use osc_handle::ContextHandle;
 use osc_protect::{ReadRequest, ReadResponse, RequestRef, unprotect_request, unprotect_response};
+use osc_status::{DONE, Refusal, Status};
 
 /// What was read of a datagram, or the refusal that C reads, and the datagram as it is left. It is lent for reading alone: the call that
 /// has this can't write to it any more, and no clause of its own has to say so.

@@ -25,19 +25,19 @@ ghost use Rattle.osc_c.specs.Asking.{RefusesNumber};
 ghost use Rattle.osc_c.specs.Opened.{option_in, Shows};
 ghost use Rattle.osc_c.specs.PeerCalls.{AsksToSave, IsNotNext, RefusesAgain, RefusesPeerSaved, RefusesPeerServing, next_record};
 ghost use Rattle.osc_c.specs.Answering.{ReadsServing};
-ghost use Rattle.osc_c.specs.Statuses.{code};
-ghost use Rattle.osc_c.specs.declared.status.Status.{Status as StatusOf};
-ghost use Rattle.osc_c.specs.declared.status.Status.TheVariants.{BadHandle, LivesExhausted, SaveFirst};
+ghost use Rattle.osc_status.specs.Statuses.{code};
+ghost use Rattle.osc_status.specs.declared.status.Status.{Status as StatusOf};
+ghost use Rattle.osc_status.specs.declared.status.Status.TheVariants.{BadHandle, LivesExhausted, SaveFirst};
 
 use crate::opened_view::{OpenedView, OptionView, show};
 use crate::refusals::delivery;
-use crate::status::{DONE, Refusal, Status};
 use osc_context_handle::ContextHandle;
 use osc_endpoint::Taken;
 use osc_handle::{TicketHandle, size_with};
 use osc_laws::one_server_answer;
 use osc_peer_handle::{BeginRefusal, PeerHandle, PeerRefusal, RecordHandle, name_of};
 use osc_protect::Opened;
+use osc_status::{DONE, Refusal, Status};
 
 /// Writes the record that has to be saved first, and makes the refusal of the call that needs it.
 pub(crate) fn save_next(

@@ -15,18 +15,18 @@ ghost use Rattle.osc_peer_handle.specs.PeerBytes.{CatchesUp, HasToSave, IsPeer, 
 ghost use Rattle.osc_room.specs.Room.{HasRoomFor};
 ghost use Rattle.osc_c.specs.PeerCalls.{RefusesPeerNotifying, RefusesPeerReplying, next_record};
 ghost use Rattle.osc_c.specs.Answering.{ReadsReplying};
-ghost use Rattle.osc_c.specs.Statuses.{code, format_status};
-ghost use Rattle.osc_c.specs.declared.status.Status.{Status as StatusOf};
-ghost use Rattle.osc_c.specs.declared.status.Status.TheVariants.{BadHandle, LivesExhausted, NoRoom, SaveFirst, StaleTicket, TicketSpent};
+ghost use Rattle.osc_status.specs.Statuses.{code, format_status};
+ghost use Rattle.osc_status.specs.declared.status.Status.{Status as StatusOf};
+ghost use Rattle.osc_status.specs.declared.status.Status.TheVariants.{BadHandle, LivesExhausted, NoRoom, SaveFirst, StaleTicket, TicketSpent};
 
 use crate::peer::save_next;
 use crate::refusals::replying_refusal;
-use crate::status::{DONE, Refusal, Status};
 use osc_coap::{one_datagram, parse};
 use osc_handle::{KeptReplyRefusal, TicketHandle};
 use osc_laws::one_server_answer;
 use osc_peer_handle::{PeerHandle, RecordHandle};
 use osc_room::enough_room;
+use osc_status::{DONE, Refusal, Status};
 
 /// Seals a plain reply, which is passed in as a datagram.
 fn reply_in(

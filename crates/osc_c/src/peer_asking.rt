@@ -24,14 +24,13 @@ ghost use Rattle.osc_room.specs.Room.{HasRoomFor};
 ghost use Rattle.osc_c.specs.Opened.{option_in, Shows};
 ghost use Rattle.osc_c.specs.PeerAskingCalls.{AsksAmong, RefusesPeerAsking, RefusesPeerForgetting, RefusesPeerHearing, StepsAmong, TakesAmong};
 ghost use Rattle.osc_c.specs.PeerCalls.{next_record};
-ghost use Rattle.osc_c.specs.Statuses.{code, format_status};
-ghost use Rattle.osc_c.specs.declared.status.Status.{Status as StatusOf};
-ghost use Rattle.osc_c.specs.declared.status.Status.TheVariants.{BadHandle, LivesExhausted, NoRoom, SaveFirst};
+ghost use Rattle.osc_status.specs.Statuses.{code, format_status};
+ghost use Rattle.osc_status.specs.declared.status.Status.{Status as StatusOf};
+ghost use Rattle.osc_status.specs.declared.status.Status.TheVariants.{BadHandle, LivesExhausted, NoRoom, SaveFirst};
 
 use crate::opened_view::{OpenedView, OptionView, show};
 use crate::peer::save_next;
 use crate::refusals::{asking_refusal, hearing};
-use crate::status::{DONE, Refusal, Status};
 use osc_coap::{Message, one_datagram, parse};
 use osc_context::Piv;
 use osc_endpoint::ClientOutcome;
@@ -40,6 +39,7 @@ use osc_laws::one_client_answer;
 use osc_peer_handle::{PeerHandle, RecordHandle};
 use osc_protect::Opened;
 use osc_room::enough_room;
+use osc_status::{DONE, Refusal, Status};
 
 /// Calls `PeerHandle::request` with these places.
 fn request_among(

@@ -5,12 +5,12 @@ ghost use Rattle.osc_protect.specs.Head.{Head, HasNoRequestHead, HasRequestHead}
 ghost use Rattle.osc_protect.specs.Views.{shown};
 ghost use Rattle.osc_protect.specs.declared.head_error.HeadError.{HeadError as HeadErrorOf};
 ghost use Rattle.osc_c.specs.PeerFinding.{HoldsAt, HoldsFirstAt, RefusesFinding, answering, named_by};
-ghost use Rattle.osc_c.specs.Statuses.{code, head_detail, head_status};
-ghost use Rattle.osc_c.specs.declared.status.Status.{Status as StatusOf};
+ghost use Rattle.osc_status.specs.Statuses.{code, head_detail, head_status};
+ghost use Rattle.osc_status.specs.declared.status.Status.{Status as StatusOf};
 
 use crate::guarded_peer::GuardedPeer;
-use crate::status::{DONE, Refusal, Status};
 use osc_protect::head_of_request;
+use osc_status::{DONE, Refusal, Status};
 
 /// Returns the index of the first of these peers whose context's requests have this kid, and this kid context or none.
 fn index_of(peers: &[GuardedPeer], kid: &[u8], kid_context: Option<&[u8]>) -> Option<usize>

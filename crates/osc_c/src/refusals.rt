@@ -7,10 +7,10 @@ ghost use Rattle.osc_life.specs.declared.server_error.ReplyError.TheVariants.{Ke
 ghost use Rattle.osc_c.specs.Asking.{IsAskingStatus, IsOutcomeStatus as IsHeardStatus, shown_as};
 ghost use Rattle.osc_c.specs.Answering.{IsOutcomeStatus, IsReplyStatus};
 
-use crate::status::{Refusal, Status};
 use osc_context::Piv;
 use osc_endpoint::{ClientOutcome, Outcome, ReplyError, RequestError, Ticket};
 use osc_protect::Opened;
+use osc_status::{Refusal, Status};
 
 /// Returns what was delivered and its ticket, or the refusal that C reads.
 pub(crate) fn delivery<'b>(outcome: Outcome<'b>) -> Result<(Opened<'b>, Ticket), Refusal>

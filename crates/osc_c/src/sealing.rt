@@ -10,17 +10,17 @@ ghost use Rattle.osc_protect.specs.Sealed.{SealsRequest, SealsResponse};
 ghost use Rattle.osc_c.specs.Calls.{AreNumbers, IsOwnPartialIv, RefusesSealing};
 ghost use Rattle.osc_c.specs.Opened.{number_given};
 ghost use Rattle.osc_context_handle.specs.ContextBytes.{client_in, server_in, IsContext};
-ghost use Rattle.osc_c.specs.Statuses.{code};
-ghost use Rattle.osc_c.specs.declared.status.Status.{Status as StatusOf};
-ghost use Rattle.osc_c.specs.declared.status.Status.TheVariants.{NoRoom};
+ghost use Rattle.osc_status.specs.Statuses.{code};
+ghost use Rattle.osc_status.specs.declared.status.Status.{Status as StatusOf};
+ghost use Rattle.osc_status.specs.declared.status.Status.TheVariants.{NoRoom};
 ghost use Rattle.osc_room.specs.Room.{HasRoomFor};
 
-use crate::status::{DONE, Refusal, Status};
 use osc_coap::{one_datagram, parse};
 use osc_context::Piv;
 use osc_handle::ContextHandle;
 use osc_protect::{RequestRef, seal_request, seal_response};
 use osc_room::enough_room;
+use osc_status::{DONE, Refusal, Status};
 
 /// Seals a plain request, which is passed in as a datagram.
 fn seal_request_in(

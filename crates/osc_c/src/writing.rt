@@ -6,16 +6,16 @@ ghost use Rattle.osc_coap.specs.OptionSpelling.{Ascends, spelling_length, marked
 ghost use Rattle.osc_coap.specs.Writer.{Holds, buffer_of};
 ghost use Rattle.osc_coap.specs.Writing.{Draft, HasRoom, with_options};
 ghost use Rattle.osc_c.specs.Opened.{option_in};
-ghost use Rattle.osc_c.specs.Statuses.{code as status_code};
+ghost use Rattle.osc_status.specs.Statuses.{code as status_code};
 ghost use Rattle.osc_c.specs.Writing.{HaveLengths, IsAloneWhereEmpty, IsFirstBad, RefusesWriting, kind_at, message_asked, message_of_kind};
 ghost use Rattle.osc_c.specs.WritingSteps.{CanBeWritten, TakesAll};
-ghost use Rattle.osc_c.specs.declared.status.Status.{Status as StatusOf};
+ghost use Rattle.osc_status.specs.declared.status.Status.{Status as StatusOf};
 
 use crate::opened_view::OptionView;
-use crate::status::{DONE, Refusal, Status};
 use osc_coap::{
     Kind, MOST_DATAGRAM, Token, Writer, head_len, lengths_by_parts, option_len, options_ascend,
 };
+use osc_status::{DONE, Refusal, Status};
 
 /// The greatest length of an option's value in bytes (RFC 7252, 3.1).
 const MOST_VALUE: usize = 13 + 256 + 65_535;

@@ -28,6 +28,11 @@ and_then (Err e) f = Err e
 abbrev pub or_fault : {A : Type 0} → Bool → A → UriError → Result A UriError
 or_fault fine x e = if fine then Ok x else Err e
 
+-- the name of a scheme (RFC 7252, 6.1 and 6.2)
+abbrev pub scheme_name : UriScheme → List ℕ
+scheme_name Coap = codes "coap"
+scheme_name Coaps = codes "coaps"
+
 -- the scheme by its name, in any letter case (RFC 7252, 6.1, 6.2 and 6.4, step 3)
 abbrev pub scheme_at : List ℕ → Result UriScheme UriError
 scheme_at name = if str_eq_ignore_ascii_case name (codes "coap") then Ok Coap else or_fault (str_eq_ignore_ascii_case name (codes "coaps")) Coaps Scheme

@@ -3,7 +3,7 @@
 //!     scheme :// host : port / segment / segment ? argument & argument
 
 ghost use Rattle.std.specs.Prelude.{◌≡◌, ◌≤◌, length, option_copied, ◌<◌, Err, IfOk, IfErr, IsErrOf, IsOkAnd};
-ghost use Rattle.osc_proxy.specs.Uri.{are_characters, host_at, hierarchy_at, is_hex, is_uri_character, number_from, port_at, scheme_at, host_length};
+ghost use Rattle.osc_proxy.specs.Uri.{are_characters, host_at, hierarchy_at, is_hex, is_uri_character, number_from, port_at, scheme_at, scheme_name, host_length};
 ghost use Rattle.osc_proxy.specs.UriViews.{Gives};
 ghost use Rattle.osc_proxy.specs.Uri.{text_at, authority_at};
 
@@ -20,6 +20,20 @@ pub enum UriScheme {
     Coap,
     /// CoAP over DTLS.
     Coaps,
+}
+
+impl UriScheme {
+    /// Returns the name of the scheme, as Proxy-Scheme has it (RFC 7252, 5.10.2).
+    #[must_use]
+    pub fn name(self) -> &'static str
+        ensures value { result.now ≡ scheme_name self }
+        ensures most { length result.now ≤ 5 }
+    {
+        match self {
+            UriScheme::Coap => "coap",
+            UriScheme::Coaps => "coaps",
+        }
+    }
 }
 
 /// Returns the scheme with this name.

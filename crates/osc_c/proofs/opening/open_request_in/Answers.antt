@@ -6,7 +6,7 @@ use Rattle.osc_protect.specs.StageViews.{LendsRequest}
 use Rattle.osc_protect.proofs.Splits.{not_err}
 use Rattle.osc_context_handle.specs.ContextBytes.{server_in}
 use Rattle.osc_c.specs.Calls.RefusesOpening.{refused}
-use Rattle.osc_c.specs.declared.status.Refusal.{Refusal}
+use Rattle.osc_status.specs.declared.refusal.Refusal.{Refusal}
 use Rattle.osc_c.proofs.LeftBytes.{request_left}
 use Rattle.osc_c.proofs.opening.open_request_in.Goals as goal
 

@@ -4,7 +4,7 @@ use Rattle.osc_protect.specs.Refusals.{RefusesToOpen}
 use Rattle.osc_protect.specs.StageViews.{LendsResponse}
 use Rattle.osc_protect.proofs.Splits.{not_err}
 use Rattle.osc_c.specs.Calls.RefusesOpening.{refused}
-use Rattle.osc_c.specs.declared.status.Refusal.{Refusal}
+use Rattle.osc_status.specs.declared.refusal.Refusal.{Refusal}
 use Rattle.osc_context_handle.specs.ContextBytes.{client_in}
 use Rattle.osc_c.proofs.LeftBytes.{never_refuses, response_left}
 use Rattle.osc_c.proofs.Moved.{plainly}

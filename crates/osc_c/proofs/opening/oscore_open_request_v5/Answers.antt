@@ -4,8 +4,8 @@ use Rattle.osc_protect.specs.Protection.{requests}
 use Rattle.osc_protect.specs.StageViews.{LendsRequest}
 use Rattle.osc_protect.specs.declared.stages.ReadRequest.{ReadRequest}
 use Rattle.osc_context_handle.specs.ContextBytes.{server_in}
-use Rattle.osc_c.specs.Statuses.{code}
-use Rattle.osc_c.specs.declared.status.Refusal.{Refusal}
+use Rattle.osc_status.specs.Statuses.{code}
+use Rattle.osc_status.specs.declared.refusal.Refusal.{Refusal}
 use Rattle.osc_c.proofs.opening.oscore_open_request_v5.Goals as goal
 
 pub opened-requires : goal.opened-requires

@@ -2,7 +2,7 @@ use Rattle.std.proofs.Common.{◌≡◌, false, refl, rules, subst, true}
 use Rattle.osc_peer_handle.specs.RecordBytes.{RefusesToBegin}
 use Rattle.osc_peer_handle.specs.declared.peer_refusal.BeginRefusal.{BeginRefusal}
 use Rattle.osc_c.specs.PeerCalls.RefusesAgain.{bad_handle, bad_number, exhausted, old_record}
-use Rattle.osc_c.specs.declared.status.Status.TheVariants.{BadHandle, BadNumber, OldRecord, SequenceExhausted}
+use Rattle.osc_status.specs.declared.status.Status.TheVariants.{BadHandle, BadNumber, OldRecord, SequenceExhausted}
 use Rattle.osc_c.proofs.peer.oscore_peer_begin_again_v5.Goals as goal
 
 pub returns-then-not-is_whole-clause-refused : goal.returns-then-not-is_whole-clause-refused

@@ -1,6 +1,6 @@
 use Rattle.std.proofs.Common.{◌≡◌, false, refl, rules, true}
 use Rattle.osc_c.specs.Asking.RefusesNumber.{bad_handle, bad_number}
-use Rattle.osc_c.specs.declared.status.Status.TheVariants.{BadHandle, BadNumber}
+use Rattle.osc_status.specs.declared.status.Status.TheVariants.{BadHandle, BadNumber}
 use Rattle.osc_c.proofs.peer.oscore_peer_begin_first_v5.Goals as goal
 
 pub returns-then-not-is_whole-clause-refused : goal.returns-then-not-is_whole-clause-refused

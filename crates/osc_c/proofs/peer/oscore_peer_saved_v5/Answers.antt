@@ -1,6 +1,6 @@
 use Rattle.std.proofs.Common.{◌≡◌, Bool, Some, ap, false, refl, rules, true}
 use Rattle.osc_c.specs.PeerCalls.RefusesPeerSaved.{bad_handle, bad_number}
-use Rattle.osc_c.specs.declared.status.Status.TheVariants.{BadHandle, BadNumber}
+use Rattle.osc_status.specs.declared.status.Status.TheVariants.{BadHandle, BadNumber}
 use Rattle.osc_c.proofs.peer.oscore_peer_saved_v5.Goals as goal
 
 pub returns-in-Some-false-clause-refused : goal.returns-in-Some-false-clause-refused

@@ -5,7 +5,7 @@ use Rattle.osc_handle.specs.TicketBytes.{ticket_in}
 use Rattle.osc_kept_ends.specs.EchoNumber.{echo_of}
 use Rattle.osc_peer_handle.specs.PeerBytes.{inside_of, next_in}
 use Rattle.osc_c.specs.Answering.{ReadsServing}
-use Rattle.osc_c.specs.Statuses.{code}
+use Rattle.osc_status.specs.Statuses.{code}
 use Rattle.osc_c.proofs.PeerRead.{answered_once, peer_serving_read}
 use Rattle.osc_c.proofs.peer.oscore_peer_take_v6.Goals as goal
 

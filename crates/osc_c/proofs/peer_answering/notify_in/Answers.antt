@@ -12,7 +12,7 @@ use Rattle.osc_peer_handle.specs.PeerBytes.{StepsAnswering, inside_of}
 use Rattle.osc_peer_handle.specs.declared.peer_handle.PeerHandle.{PeerHandle}
 use Rattle.osc_c.specs.PeerCalls.{AsksToSave}
 use Rattle.osc_c.specs.PeerCalls.RefusesPeerNotifying.{malformed, refused, save_first}
-use Rattle.osc_c.specs.declared.status.Refusal.{Refusal}
+use Rattle.osc_status.specs.declared.refusal.Refusal.{Refusal}
 use Rattle.osc_c.proofs.PeerServing.{apart}
 use Rattle.osc_c.proofs.peer_answering.notify_in.Goals as goal
 

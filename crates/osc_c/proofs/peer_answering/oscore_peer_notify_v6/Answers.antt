@@ -4,7 +4,7 @@ use Rattle.osc_life.specs.ServerHistory.{Notify, Replied}
 use Rattle.osc_handle.specs.TicketBytes.{ticket_in}
 use Rattle.osc_peer_handle.specs.PeerBytes.{StepsAnswering, inside_of}
 use Rattle.osc_c.specs.Answering.{ReadsReplying}
-use Rattle.osc_c.specs.Statuses.{code}
+use Rattle.osc_status.specs.Statuses.{code}
 use Rattle.osc_c.proofs.PeerRead.{answered_once, peer_notifying_read}
 use Rattle.osc_c.proofs.PeerServing.{peer_notify_faulty}
 use Rattle.osc_c.proofs.Room.{peer_notify_has_room}

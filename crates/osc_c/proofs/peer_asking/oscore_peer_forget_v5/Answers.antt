@@ -3,7 +3,7 @@ use Rattle.osc_client.specs.ClientHistory.{Forget, Forgot}
 use Rattle.osc_c.specs.Asking.{ReadsForgetting}
 use Rattle.osc_c.specs.PeerAskingCalls.{StepsAmong}
 use Rattle.osc_c.specs.PeerAskingCalls.RefusesPeerForgetting.{bad_handle, not_pending}
-use Rattle.osc_c.specs.declared.status.Status.TheVariants.{BadHandle, NotPending}
+use Rattle.osc_status.specs.declared.status.Status.TheVariants.{BadHandle, NotPending}
 use Rattle.osc_c.proofs.PeerRead.{heard_once}
 use Rattle.osc_c.proofs.peer_asking.oscore_peer_forget_v5.Goals as goal
 

@@ -3,7 +3,7 @@ use Rattle.osc_coap.specs.Datagram.{Parts}
 use Rattle.osc_client.specs.ClientHistory.{Request, Sent}
 use Rattle.osc_c.specs.Asking.{ReadsAsking}
 use Rattle.osc_c.specs.PeerAskingCalls.{StepsAmong}
-use Rattle.osc_c.specs.Statuses.{code}
+use Rattle.osc_status.specs.Statuses.{code}
 use Rattle.osc_c.proofs.PeerAsking.{peer_request_faulty}
 use Rattle.osc_c.proofs.PeerRead.{heard_once, peer_asking_read}
 use Rattle.osc_c.proofs.Room.{peer_request_has_room}

@@ -5,8 +5,8 @@ use Rattle.osc_protect.specs.Views.{seen_head}
 use Rattle.osc_c.proofs.PeerFinding.{answers_at, names_at}
 use Rattle.osc_c.specs.PeerFinding.{HoldsAt, named_by}
 use Rattle.osc_c.specs.PeerFinding.RefusesFinding.{no_context, no_head}
-use Rattle.osc_c.specs.declared.status.Refusal.{Refusal}
-use Rattle.osc_c.specs.declared.status.Status.TheVariants.{NoContext}
+use Rattle.osc_status.specs.declared.refusal.Refusal.{Refusal}
+use Rattle.osc_status.specs.declared.status.Status.TheVariants.{NoContext}
 use Rattle.osc_c.proofs.peer_finding.oscore_peer_find_v5.Goals as goal
 
 pub returns-in-Err-clause-accepts : goal.returns-in-Err-clause-accepts

@@ -1,5 +1,5 @@
 use Rattle.std.proofs.Common.{◌∙◌, ap, ◌<◌, ◌^◌, length, sym}
-use Rattle.osc_c.specs.Statuses.{code}
+use Rattle.osc_status.specs.Statuses.{code}
 use Rattle.osc_c.proofs.Room.{request_has_room}
 use Rattle.osc_c.proofs.sealing.oscore_seal_request_v5.Goals as goal
 

@@ -7,8 +7,8 @@ use Rattle.osc_protect.specs.Protection.{Protection, requests}
 use Rattle.osc_protect.specs.SealRefusals.{FitsToSeal, RefusesToSeal}
 use Rattle.osc_context_handle.specs.ContextBytes.{client_in}
 use Rattle.osc_c.specs.Calls.RefusesSealing.{bad_handle, bad_number, malformed, refused}
-use Rattle.osc_c.specs.Statuses.{format_status, seal_detail, seal_status}
-use Rattle.osc_c.specs.declared.status.Refusal.{Refusal}
+use Rattle.osc_status.specs.Statuses.{format_status, seal_detail, seal_status}
+use Rattle.osc_status.specs.declared.refusal.Refusal.{Refusal}
 use Rattle.osc_c.proofs.Moved.{moved, same_error}
 use Rattle.osc_c.proofs.sealing.seal_request_in.Goals as goal
 

@@ -8,8 +8,8 @@ use Rattle.osc_protect.specs.Protection.{Protection, responses}
 use Rattle.osc_protect.specs.SealRefusals.{FitsToSeal, RefusesToSeal}
 use Rattle.osc_c.specs.Calls.RefusesSealing.{bad_handle, bad_number, malformed, refused}
 use Rattle.osc_context_handle.specs.ContextBytes.{server_in}
-use Rattle.osc_c.specs.Statuses.{format_status, seal_detail, seal_status}
-use Rattle.osc_c.specs.declared.status.Refusal.{Refusal}
+use Rattle.osc_status.specs.Statuses.{format_status, seal_detail, seal_status}
+use Rattle.osc_status.specs.declared.refusal.Refusal.{Refusal}
 use Rattle.osc_c.proofs.Moved.{moved, plainly, same_error}
 use Rattle.osc_c.proofs.sealing.seal_response_in.Goals as goal
 

@@ -1,5 +1,5 @@
 use Rattle.std.proofs.Common.{◌∙◌, ap, length}
-use Rattle.osc_c.specs.Statuses.{code}
+use Rattle.osc_status.specs.Statuses.{code}
 use Rattle.osc_c.specs.Writing.{message_asked}
 use Rattle.osc_c.proofs.Unwritten.{is_written, one_refusal}
 use Rattle.osc_c.proofs.writing.oscore_write_message_v5.Goals as goal

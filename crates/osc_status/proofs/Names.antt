@@ -1,7 +1,7 @@
 -- The names of statuses are short.
 use Rattle.std.proofs.Common.{◌≡◌, ◌<◌, refl, rules, ℕ, zero, suc, List, [], ◌∷◌, length, nat_lt, true}
 use Rattle.std.specs.Prelude.{slice_get}
-use Rattle.osc_c.specs.Statuses.{name_or_unknown, status_name, status_names}
+use Rattle.osc_status.specs.Statuses.{name_or_unknown, status_name, status_names}
 
 -- names of less than 24 bytes
 AreShort : List (List ℕ) → Type 0
