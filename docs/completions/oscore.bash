@@ -43,7 +43,11 @@ _oscore() {
     esac
     case $call in
         open) words+=(--request --registers) ;;
-        protect) words+=(--sequence --request --registers) ;;
+        protect)
+            words+=(--sequence)
+            [[ $given == *" --proxy "* ]] || words+=(--request --registers)
+            [[ $given == *" --"@(request|registers)" "* ]] || words+=(--proxy)
+            ;;
         run)
             # A record is a peer's.
             local role=

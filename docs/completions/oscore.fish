@@ -9,7 +9,7 @@ end
 # Whether none of these words is given, alone or before a =. An option whose value is at the cursor isn't given yet.
 function __oscore_without
     set -l words (commandline -opc)
-    if string match -qr -- '^--[a-z-]+$' "$words[-1]"; and not contains -- "$words[-1]" --restarted --registers --tables --first --help
+    if string match -qr -- '^--[a-z-]+$' "$words[-1]"; and not contains -- "$words[-1]" --restarted --registers --proxy --tables --first --help
         set -e words[-1]
     end
     not string match -qr -- '^('(string join '|' -- $argv)')(=|$)' $words
@@ -47,9 +47,10 @@ complete -c oscore -n "$context --id-context" -l id-context -x -d 'The ID Contex
 complete -c oscore -n '__oscore_call derive open protect run' -l allow -x -a 'blocks observe' -d 'What may also pass'
 complete -c oscore -n '__oscore_call derive open protect run; and __oscore_without --tables' -l tables -d 'Use the keys by tables'
 
-complete -c oscore -n '__oscore_call open protect; and __oscore_without --request' -l request -x -d 'Of a response: the number of its request'
-complete -c oscore -n '__oscore_call open protect; and __oscore_without --registers' -l registers -d 'Its request registers an observation'
+complete -c oscore -n '__oscore_call open protect; and __oscore_without --request --proxy' -l request -x -d 'Of a response: the number of its request'
+complete -c oscore -n '__oscore_call open protect; and __oscore_without --registers --proxy' -l registers -d 'Its request registers an observation'
 complete -c oscore -n '__oscore_call protect; and __oscore_without --sequence' -l sequence -x -d 'The Sender Sequence Number to use'
+complete -c oscore -n '__oscore_call protect; and __oscore_without --proxy --request --registers' -l proxy -d 'Split its Proxy-Uri, and ask a proxy by Proxy-Scheme'
 
 complete -c oscore -n '__oscore_call run; and __oscore_without --role' -l role -x -a 'server client peer' -d 'What this end is'
 complete -c oscore -n '__oscore_call run; and __oscore_without --follow' -l follow -d 'Print each entry as soon as its line is read'

@@ -17,6 +17,8 @@ pub(crate) enum Takes {
     Default(&'static str),
     /// One value, in place of these two options.
     ValueFor(&'static str, &'static str),
+    /// Nothing, and it doesn't go with this option.
+    NothingWithout(&'static str),
     /// One of these values.
     OneOf(&'static [&'static str]),
     /// One of these values, and the call needs it.
@@ -58,6 +60,7 @@ const EXAMPLE_DERIVE: &str = "Example:
 const EXAMPLE_PROTECT: &str =
     "A request needs --sequence, a number that was never used. A response needs
 --request, and --sequence only where it is to have a Partial IV of its own.
+With --proxy the request has Proxy-Uri, and what is printed is for the proxy.
 
 Example:
   oscore protect --secret 0102030405060708090a0b0c0d0e0f10 \\
@@ -154,6 +157,10 @@ const DATAGRAM: Word = Word { name: "datagram", value: "DATAGRAM", takes: Takes:
 #[rattlefmt::skip]
 const SEQUENCE: Word = Word { name: "sequence", value: "N", takes: Takes::Value, help: "The Sender Sequence Number to use, below 2^40 [optional]" };
 
+/// The option of a request that goes through a forward proxy.
+#[rattlefmt::skip]
+const PROXY: Word = Word { name: "proxy", value: "", takes: Takes::NothingWithout("request"), help: "Split its Proxy-Uri, and ask a proxy by Proxy-Scheme" };
+
 /// The options of a run. The file of `--numbers` says how the end begins.
 #[rattlefmt::skip]
 const RUN: &[Word] = &[
@@ -174,7 +181,7 @@ const RUN: &[Word] = &[
 pub(crate) const CALLS: &[Call] = &[
     Call { name: "derive", about: "Prints the keys and the Common IV of a context.", example: EXAMPLE_DERIVE, context: CONTEXT, others: &[] },
     Call { name: "open", about: "Opens a protected request or response, and prints its parts.", example: EXAMPLE, context: CONTEXT, others: &[REQUEST, REGISTERS, DATAGRAM] },
-    Call { name: "protect", about: "Protects a plain request or response, and prints it in hex.", example: EXAMPLE_PROTECT, context: CONTEXT, others: &[REQUEST, REGISTERS, SEQUENCE, DATAGRAM] },
+    Call { name: "protect", about: "Protects a plain request or response, and prints it in hex.", example: EXAMPLE_PROTECT, context: CONTEXT, others: &[REQUEST, REGISTERS, SEQUENCE, PROXY, DATAGRAM] },
     Call { name: "explain", about: "Prints what a datagram shows without a key.", example: EXAMPLE_EXPLAIN, context: &[], others: &[DATAGRAM] },
     Call { name: "run", about: "Runs a server, a client or a peer over the events on standard input.", example: EXAMPLE_RUN, context: CONTEXT, others: RUN },
 ];

@@ -13,7 +13,8 @@ use clap::{ArgMatches, Error};
 use osc_context::{Keeper, Piv, RecordKeeper};
 use osc_protect::RequestRef;
 use osc_text::{
-    Agreed, Fault, Opening, Sealing, Wrong, derive_text, explain_text, open_text, protect_text,
+    Agreed, Fault, Opening, Sealing, Wrong, derive_text, explain_text, forward_text, open_text,
+    protect_text,
 };
 use std::alloc::Global;
 use std::io::{Read, Write};
@@ -64,6 +65,16 @@ fn read_sealing(matches: &ArgMatches<'_>) -> Result<Sealing, Fault> {
 enum What {
     Open(Opening),
     Protect(Sealing),
+    /// Seals a request with this number, which goes through a forward proxy.
+    Forward(Piv),
+}
+
+/// Reads what a call seals its datagram as, and whether that goes through a forward proxy.
+fn read_protecting(matches: &ArgMatches<'_>) -> Result<What, Fault> {
+    match read_sealing(matches)? {
+        Sealing::Request(number) if matches.get_flag("proxy") => Ok(What::Forward(number)),
+        sealing => Ok(What::Protect(sealing)),
+    }
 }
 
 /// Opens or seals the datagram of a call.
@@ -80,6 +91,7 @@ fn run_datagram<W: Write>(
     match what {
         What::Open(opening) => open_text(alloc, agreed, opening, datagram.as_mut_slice(), out),
         What::Protect(sealing) => protect_text(alloc, agreed, sealing, datagram.as_slice(), out),
+        What::Forward(number) => forward_text(alloc, agreed, number, datagram.as_slice(), out),
     }
 }
 
@@ -108,7 +120,7 @@ fn run_under<W: Write>(
             run_datagram(alloc, agreed, what, matches, out)
         }
         "protect" => {
-            let what = What::Protect(read_sealing(matches)?);
+            let what = read_protecting(matches)?;
             run_datagram(alloc, agreed, what, matches, out)
         }
         // There is no other call. clap answers `help` by itself.

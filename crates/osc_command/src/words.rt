@@ -56,6 +56,9 @@ fn arg_of<'a>(alloc: Global, word: &'a Word) -> Result<Arg<'a>, AllocError>
         Takes::ValueFor(first, second) => valued(alloc, word)
             .conflicts_with(first)?
             .conflicts_with(second),
+        Takes::NothingWithout(other) => option_of(alloc, word)
+            .action(ArgAction::SetTrue)
+            .conflicts_with(other),
         Takes::OneOf(choices) => Ok(choice(alloc, word, choices)),
         Takes::RequiredOneOf(choices) => Ok(choice(alloc, word, choices).required(true)),
         Takes::AnyOf(choices) => Ok(choice(alloc, word, choices).action(ArgAction::Append)),

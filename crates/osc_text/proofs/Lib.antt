@@ -21,6 +21,7 @@ pub mod PeerSpellings
 pub mod ProtectTexts
 pub mod ReplaceSpellings
 pub mod RunLines
+pub mod ForwardTexts
 pub mod ServerSteps
 pub mod ServerTexts
 pub mod AskedSpellings

@@ -4,6 +4,7 @@ pub mod Lines
 pub mod Contexts
 pub mod Opening
 pub mod Protecting
+pub mod Forwarding
 pub mod Explanation
 pub mod Hex
 pub mod HexFaults

@@ -20,6 +20,9 @@ returns-in-Default c = global_of c.default_value.ensures ∙ c.valued-in-Default
 pub returns-in_ok-conflicts_with-in-ValueFor : goal.returns-in_ok-conflicts_with-in-ValueFor
 returns-in_ok-conflicts_with-in-ValueFor c = kept_global _ _ c.conflicts_with-in-ValueFor.result c.conflicts_with-in-ValueFor.ensures (λ a. global_of c.in_ok-conflicts_with-in-ValueFor.ensures.0 ∙ c.valued-in-ValueFor.ensures)
 
+pub returns-in-NothingWithout : goal.returns-in-NothingWithout
+returns-in-NothingWithout c = kept_global _ _ c.conflicts_with-in-NothingWithout.result c.conflicts_with-in-NothingWithout.ensures (λ a. global_of c.action-in-NothingWithout.ensures ∙ c.option_of-in-NothingWithout.ensures)
+
 pub returns-in-RequiredOneOf : goal.returns-in-RequiredOneOf
 returns-in-RequiredOneOf c = global_of c.required-in-RequiredOneOf.ensures ∙ c.choice-in-RequiredOneOf.ensures
 
