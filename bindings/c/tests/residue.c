@@ -20,7 +20,7 @@
 /* The stack, and behind it what stood in registers. */
 enum { AREA = 1 << 16, REGISTERS = 512, WHOLE = AREA + REGISTERS, UNTOUCHED = 0xa5, ROOM = 128, NUMBER = 20, LIFE = 60000 };
 /* Of round keys 1 to 10: the words, and what they are bitsliced. So many words by chance are none. */
-enum { WORDS = 40, SLICED = 40, BY_CHANCE = 7 };
+enum { WORDS = 40, PLANES = 80, BY_CHANCE = 7 };
 
 /* RFC 8613, C.1, and another Master Secret. */
 static const uint8_t SECRETS[2][16] = {{1, 2, 3, 4, 5, 6, 7, 8, 9, 10, 11, 12, 13, 14, 15, 16},
@@ -214,19 +214,19 @@ static void make_box(void) {
     }
 }
 
-/* Words 4 to 43 of a key (FIPS 197, 5.2), and as osc_aes keeps them bitsliced: where the byte in row r and column c stands turned right by
-   r times the number of its round key, its bit t is bit 8r + 2c + t % 2 of word t / 2. */
-static void expand(const uint8_t key[16], uint32_t schedule[WORDS + SLICED]) {
+/* Words 4 to 43 of a key (FIPS 197, 5.2), and as osc_aes has them bitsliced: where the byte in row r and column c stands turned right by
+   r times the number of its round key, its bit t is bit 8r + 2c of plane t, and the next one, of the second block. */
+static void expand(const uint8_t key[16], uint32_t schedule[WORDS + PLANES]) {
     uint8_t bytes[176], constant = 1;
     memcpy(bytes, key, 16);
-    memset(schedule, 0, 4 * (WORDS + SLICED));
+    memset(schedule, 0, 4 * (WORDS + PLANES));
     for (int i = 16; i < 176; i++) {
         int round = i / 16, r = i % 4, c = (i / 4 + round * r) % 4;
         uint8_t last = bytes[i - 4];
         if (i % 16 < 4) last = box[bytes[r < 3 ? i - 3 : i - 7]];
         if (i % 16 == 0) last ^= constant, constant = (uint8_t)(constant << 1 ^ (constant & 0x80 ? 0x1b : 0));
         bytes[i] = bytes[i - 16] ^ last;
-        for (int t = 0; t < 8; t++) schedule[WORDS + 4 * (round - 1) + t / 2] |= (bytes[i] >> t & 1u) << (8 * r + 2 * c + t % 2);
+        for (int t = 0; t < 8; t++) schedule[WORDS + 8 * (round - 1) + t] |= (bytes[i] >> t & 1u) * (3u << (8 * r + 2 * c));
     }
     memcpy(schedule, bytes + 16, 4 * WORDS);
 }
@@ -235,12 +235,12 @@ static uint32_t turned(uint32_t word) {
     return word >> 24 | (word >> 8 & 0xff00) | (word << 8 & 0xff0000) | word << 24;
 }
 
-/* How many words of a key's schedule, bitsliced or not, stand in the area, in either order of their bytes. */
+/* How many words and planes of a key's schedule stand in the area, in either order of their bytes. */
 static size_t words_of(const uint8_t key[16]) {
-    uint32_t schedule[WORDS + SLICED], word;
+    uint32_t schedule[WORDS + PLANES], word;
     size_t met = 0;
     expand(key, schedule);
-    for (int i = 0; i < WORDS + SLICED; i++)
+    for (int i = 0; i < WORDS + PLANES; i++)
         for (size_t place = deepest() / 4 * 4; place < WHOLE; place += 4) {
             memcpy(&word, area + place, 4);
             if (word != schedule[i] && turned(word) != schedule[i]) continue;
@@ -298,7 +298,7 @@ static void check_wiped(const row *row) {
 /* The search finds what was laid there, and counts it. */
 static void check_search(void) {
     static const uint8_t key[16] = {0x2b, 0x7e, 0x15, 0x16, 0x28, 0xae, 0xd2, 0xa6, 0xab, 0xf7, 0x15, 0x88, 0x09, 0xcf, 0x4f, 0x3c};
-    uint32_t schedule[WORDS + SLICED];
+    uint32_t schedule[WORDS + PLANES];
     expand(key, schedule);
     CHECK(!memcmp(schedule + WORDS - 1, "\xb6\x63\x0c\xa6", 4)); /* FIPS 197, A.1 */
     prepare(0, SENT);
