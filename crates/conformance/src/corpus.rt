@@ -111,7 +111,8 @@ impl<'t> Corpus<'t> {
             | "kept-client"
             | "kept-peer"
             | "peers-in-turn"
-            | "peer-bytes" => {
+            | "peer-bytes"
+            | "messages" => {
                 ends::make(row.verb, row.fields, contexts, &mut answer);
             }
             verb => {

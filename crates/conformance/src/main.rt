@@ -21,6 +21,7 @@ mod fields;
 mod freshening;
 mod keeper;
 mod kept;
+mod messages;
 mod numbers;
 mod peer;
 mod peer_alike;

@@ -1,0 +1,11 @@
+pub mod Answered
+pub mod Apart
+pub mod Came
+pub mod Counting
+pub mod Judged
+pub mod Oldest
+pub mod OnTheirWay
+pub mod OneToAPeer
+pub mod Repeats
+pub mod Times
+pub mod Walking

@@ -1,0 +1,10 @@
+use Rattle.std.proofs.Common.{◌≡◌, ℕ, ◌<◌, Some, false}
+use Rattle.std.specs.Prelude.{Option, map, slice_get}
+use Rattle.osc_message.specs.Slots.{holds}
+use Rattle.osc_message.specs.Sending.{Sending, is_unacknowledged}
+use Rattle.osc_message.specs.Views.{place_of}
+use Rattle.osc_message.proofs.places.is_idle.Given as goal
+
+-- no message before passes
+abbrev pub invariant-loop-place : goal.invariant-loop-place
+invariant-loop-place l = (i : ℕ) (o : Option Sending) → i < l.place → slice_get (map place_of l.places) i ≡ Some o → holds (is_unacknowledged l.to) o ≡ false
