@@ -112,7 +112,8 @@ impl<'t> Corpus<'t> {
             | "kept-peer"
             | "peers-in-turn"
             | "peer-bytes"
-            | "messages" => {
+            | "messages"
+            | "node" => {
                 ends::make(row.verb, row.fields, contexts, &mut answer);
             }
             verb => {

@@ -5,7 +5,7 @@ use crate::fields::NamedContext;
 use crate::keeper::Memory;
 use crate::peer_bytes::PeerBytes;
 use crate::steps::{Step, Way, steps_of};
-use crate::{client, kept, messages, peer, server, turns};
+use crate::{client, kept, messages, nodes, peer, server, turns};
 use osc_kept::{KeptClient, KeptServer};
 use std::alloc::AllocError;
 
@@ -70,6 +70,7 @@ pub(crate) fn make<'t>(
         "kept-peer" => peer::over_both(&steps, answer),
         "peers-in-turn" => turns::make(&steps, answer),
         "messages" => messages::make(&steps, answer),
+        "node" => nodes::make(&steps, answer),
         "peer-bytes" => in_both_ways::<PeerBytes>(first, rest, answer),
         _ => answer.is_whole = false,
     }

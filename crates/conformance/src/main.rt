@@ -22,6 +22,7 @@ mod freshening;
 mod keeper;
 mod kept;
 mod messages;
+mod nodes;
 mod numbers;
 mod peer;
 mod peer_alike;

@@ -16,7 +16,7 @@ const MOST_POLLS: usize = 8;
 type Layer = Messages<2, 2>;
 
 /// Reads an address, of at most 28 bytes.
-fn address(fields: &Fields<'_>, place: usize) -> Address {
+pub(crate) fn address(fields: &Fields<'_>, place: usize) -> Address {
     let mut address = Address::new();
     if address.try_extend_from_slice(fields.bytes(place)).is_err() {
         fields.refuse();
@@ -34,7 +34,7 @@ fn token(fields: &Fields<'_>, place: usize) -> Token {
 }
 
 /// Shows the number of a call, and its place.
-fn show_call(word: &str, call: Call, answer: &mut Answer) {
+pub(crate) fn show_call(word: &str, call: Call, answer: &mut Answer) {
     answer.word(word);
     answer.print(call.number);
     answer.word("at");
@@ -42,7 +42,7 @@ fn show_call(word: &str, call: Call, answer: &mut Answer) {
 }
 
 /// Shows the number of a message that came, and its place.
-fn show_arrived(word: &str, arrived: Arrived, answer: &mut Answer) {
+pub(crate) fn show_arrived(word: &str, arrived: Arrived, answer: &mut Answer) {
     let Arrived { number, place } = arrived;
     show_call(word, Call { number, place }, answer);
 }
@@ -71,7 +71,7 @@ fn send(layer: &mut Layer, fields: &Fields<'_>, answer: &mut Answer) {
 }
 
 /// Shows what a message gets that comes again.
-fn again(again: Again) -> &'static str {
+pub(crate) fn again(again: Again) -> &'static str {
     match again {
         Again::Nothing => "nothing",
         Again::Acknowledge => "acknowledge",
@@ -80,7 +80,7 @@ fn again(again: Again) -> &'static str {
 }
 
 /// Shows what an empty ACK did.
-fn show_acknowledged(acknowledged: Acknowledged, answer: &mut Answer) {
+pub(crate) fn show_acknowledged(acknowledged: Acknowledged, answer: &mut Answer) {
     match acknowledged {
         Acknowledged::Nothing => answer.word("nothing"),
         Acknowledged::Stopped(call) => show_call("stopped", call, answer),
@@ -92,8 +92,8 @@ fn show_acknowledged(acknowledged: Acknowledged, answer: &mut Answer) {
 fn take(layer: &mut Layer, fields: &Fields<'_>, answer: &mut Answer) {
     fields.count(3);
     match layer.take(fields.number(0), fields.bytes(1), fields.bytes(2)) {
-        Taken::Request => answer.word("request"),
-        Taken::Response(call) => show_call("response", call, answer),
+        Taken::Request(_) => answer.word("request"),
+        Taken::Response(call, _) => show_call("response", call, answer),
         Taken::Repeated(repeated) => {
             answer.word("again");
             answer.word(again(repeated.again));
@@ -106,6 +106,35 @@ fn take(layer: &mut Layer, fields: &Fields<'_>, answer: &mut Answer) {
             answer.bytes(&reset);
         }
         Taken::Ignored => answer.word("ignored"),
+    }
+}
+
+/// Makes `heading NOW FROM DATAGRAM`: a request or a response comes. Shows what an ACK of it needs.
+fn heading(layer: &mut Layer, fields: &Fields<'_>, answer: &mut Answer) {
+    fields.count(3);
+    match layer.take(fields.number(0), fields.bytes(1), fields.bytes(2)) {
+        Taken::Request(heading) | Taken::Response(_, heading) => {
+            answer.bytes(&heading.message_id.to_be_bytes());
+            answer.word(if heading.confirmable { "con" } else { "no-con" });
+        }
+        _ => answer.word("none"),
+    }
+}
+
+/// Makes `may-send TO`: whether a confirmable message could be sent to this address.
+fn may_send(layer: &Layer, fields: &Fields<'_>, answer: &mut Answer) {
+    fields.count(1);
+    match layer.exchanges.check_begin(fields.bytes(0)) {
+        Ok(()) => answer.word("yes"),
+        Err(refusal) => answer.refused(refusal),
+    }
+}
+
+/// Makes `may-note`: whether a message that comes could be kept in mind.
+fn may_note(layer: &Layer, answer: &mut Answer) {
+    match layer.arrivals.check_note() {
+        Ok(()) => answer.word("yes"),
+        Err(refusal) => answer.refused(refusal),
     }
 }
 
@@ -124,15 +153,27 @@ fn note(layer: &mut Layer, fields: &Fields<'_>, answer: &mut Answer) {
     }
 }
 
-/// Makes `answer NUMBER PLACE`: a message that came is answered.
-fn respond(layer: &mut Layer, fields: &Fields<'_>, answer: &mut Answer) {
-    fields.count(2);
-    let (number, place) = (fields.number(0), fields.index(1));
-    answer.word(match layer.arrivals.answer(Arrived { number, place }) {
+/// Shows how an answer is sent.
+fn show_way(way: Option<Way>, answer: &mut Answer) {
+    answer.word(match way {
         Some(Way::InAck) => "in-ack",
         Some(Way::Separate) => "separate",
         None => "none",
     });
+}
+
+/// Makes `way NUMBER PLACE`: how an answer to a message that came would be sent.
+fn way(layer: &Layer, fields: &Fields<'_>, answer: &mut Answer) {
+    fields.count(2);
+    let (number, place) = (fields.number(0), fields.index(1));
+    show_way(layer.arrivals.way(Arrived { number, place }), answer);
+}
+
+/// Makes `answer NUMBER PLACE`: a message that came is answered.
+fn respond(layer: &mut Layer, fields: &Fields<'_>, answer: &mut Answer) {
+    fields.count(2);
+    let (number, place) = (fields.number(0), fields.index(1));
+    show_way(layer.arrivals.answer(Arrived { number, place }), answer);
 }
 
 /// Makes `end NUMBER PLACE`: a call ends.
@@ -164,7 +205,7 @@ fn show_due(layer: &Layer, due: Due, answer: &mut Answer) -> bool {
 }
 
 /// Makes `poll NOW` until nothing is left to be done.
-fn poll(layer: &mut Layer, fields: &Fields<'_>, answer: &mut Answer) {
+pub(crate) fn poll(layer: &mut Layer, fields: &Fields<'_>, answer: &mut Answer) {
     fields.count(1);
     for _ in 0..MOST_POLLS {
         let due = layer.poll(fields.number(0));
@@ -175,20 +216,31 @@ fn poll(layer: &mut Layer, fields: &Fields<'_>, answer: &mut Answer) {
 }
 
 /// Makes `wake`: the moment before which nothing is to be done, or `never`.
-fn wake(layer: &Layer, answer: &mut Answer) {
+pub(crate) fn wake(layer: &Layer, answer: &mut Answer) {
     match layer.wake() {
         u64::MAX => answer.word("never"),
         moment => answer.print(moment),
     }
 }
 
-/// Makes `id NOW`: the next Message ID, or `none`.
-fn give(layer: &mut Layer, fields: &Fields<'_>, answer: &mut Answer) {
-    fields.count(1);
-    match layer.ids.give(fields.number(0)) {
+/// Shows a Message ID, or `none`.
+fn show_id(id: Option<u16>, answer: &mut Answer) {
+    match id {
         Some(id) => answer.bytes(&id.to_be_bytes()),
         None => answer.word("none"),
     }
+}
+
+/// Makes `id NOW`: the next Message ID is given.
+fn give(layer: &mut Layer, fields: &Fields<'_>, answer: &mut Answer) {
+    fields.count(1);
+    show_id(layer.ids.give(fields.number(0)), answer);
+}
+
+/// Makes `next NOW`: the next Message ID, which isn't given.
+fn next(layer: &Layer, fields: &Fields<'_>, answer: &mut Answer) {
+    fields.count(1);
+    show_id(layer.ids.next(fields.number(0)), answer);
 }
 
 /// Makes one step of a row.
@@ -196,13 +248,18 @@ fn step(layer: &mut Layer, step: &Step<'_>, answer: &mut Answer) {
     let fields = &step.fields;
     match step.verb {
         "send" => send(layer, fields, answer),
+        "may-send" => may_send(layer, fields, answer),
         "take" => take(layer, fields, answer),
+        "heading" => heading(layer, fields, answer),
         "note" => note(layer, fields, answer),
+        "may-note" => may_note(layer, answer),
         "answer" => respond(layer, fields, answer),
+        "way" => way(layer, fields, answer),
         "end" => end(layer, fields, answer),
         "poll" => poll(layer, fields, answer),
         "wake" => wake(layer, answer),
         "id" => give(layer, fields, answer),
+        "next" => next(layer, fields, answer),
         _ => fields.refuse(),
     }
 }

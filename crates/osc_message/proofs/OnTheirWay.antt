@@ -19,6 +19,11 @@ pub stepped : (s : Step) (o : Option Sending) (now : ℕ) → step_at_place o no
 stepped s None now e other = absurd (other (sym e))
 stepped s (Some x) now e other = (x, refl, e)
 
+-- where nothing is to be done, nothing is about what is at a place
+pub rests_at : (places : List (Option Sending)) (place now : ℕ) (o : Option Sending) → Rests places now → slice_get places place ≡ Some o → step_at_place o now ≡ steps.Rest
+rests_at places place now None rests there = refl
+rests_at places place now (Some x) rests there = rests place x there
+
 pub all_rest : (xs : List (Option Exchange)) (now k : ℕ) → length xs ≤ k
     → ((i : ℕ) (o : Option Sending) → i < k → slice_get (map place_of xs) i ≡ Some o → step_at_place o now ≡ steps.Rest) → Rests (map place_of xs) now
 all_rest xs now k all before i x there = whole place_of xs (λ (o : Option Sending). step_at_place o now) steps.Rest k all before i (Some x) there

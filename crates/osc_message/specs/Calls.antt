@@ -1,6 +1,6 @@
 -- How the code is seen: what each call of a table does.
-use Rattle.std.specs.Prelude.{◌≡◌, ◌^◌, ◌-◌, ℕ, List, Bool, true, false, Option, Some, None, slice_get, codes}
-use Rattle.osc_message.specs.Slots.{IsAt, NonePasses}
+use Rattle.std.specs.Prelude.{◌≡◌, ◌≢◌, ◌^◌, ◌-◌, ℕ, List, Bool, true, false, Option, Some, None, slice_get, codes}
+use Rattle.osc_message.specs.Slots.{IsAt, IsFreePlace, NonePasses}
 use Rattle.osc_message.specs.Sending.{Sending, again, first_wait_of, is_awaited, is_for, step, stopped}
 use Rattle.osc_message.specs.Table.{Begins, Ends, IsIdle, Moves, Rests, Table}
 use Rattle.osc_message.specs.declared.exchange.Awaits.TheVariants.{Response, Acknowledgement}
@@ -37,6 +37,10 @@ abbrev pub IsFirstReason : Table → List ℕ → BeginError → Type 0
 IsFirstReason t to errors.Busy = IsIdle t to → ⊥
 IsFirstReason t to errors.Full = IsIdle t to × IsFull t
 IsFirstReason t to errors.CallsExhausted = IsIdle t to × (IsFull t → ⊥) × (t.next_call ≡ 2 ^ 64 - 1)
+
+-- a message to this address can be sent: its address is idle, this place is free, and a number is left (how the code is seen)
+abbrev pub MayBegin : Table → List ℕ → ℕ → Type 0
+MayBegin t to place = IsIdle t to × IsFreePlace t.places (Some place) × (t.next_call ≢ 2 ^ 64 - 1)
 
 -- the message of this call, which passes (how the code is seen)
 abbrev pub IsOf : Table → (Sending → Bool) → Call → Sending → Type 0

@@ -1,8 +1,8 @@
 -- How the code is seen: what each call of a table of messages that came does.
-use Rattle.std.specs.Prelude.{◌≡◌, ◌^◌, ◌-◌, ℕ, List, Bool, true, false, Option, Some, None, codes}
+use Rattle.std.specs.Prelude.{◌≡◌, ◌≢◌, ◌^◌, ◌-◌, ℕ, List, Bool, true, false, Option, Some, None, codes}
 use Rattle.osc_message.specs.Arriving.{Came, Notes, Stays}
 use Rattle.osc_message.specs.Hearing.{Heard, acknowledged, again_of, answered, is_done, is_due, is_same, way_of}
-use Rattle.osc_message.specs.HearingFinding.{IsNextPlace}
+use Rattle.osc_message.specs.HearingFinding.{IsNextPlace, IsUnusedPlace}
 use Rattle.osc_message.specs.Slots.{IsAt, IsFreePlace, NonePasses}
 use Rattle.osc_message.specs.declared.arrival.Stage.{Stage}
 use Rattle.osc_message.specs.declared.arrival.Stage.TheVariants.{Waiting, Done}
@@ -45,9 +45,18 @@ abbrev pub IsFirstReason : Came → NoteError → Type 0
 IsFirstReason t Full = HasNoPlace t
 IsFirstReason t NumbersExhausted = (HasNoPlace t → ⊥) × (t.next_number ≡ 2 ^ 64 - 1)
 
+-- a message can be kept in mind: this is the next place, and a number is left (how the code is seen)
+abbrev pub MayNote : Came → ℕ → Type 0
+MayNote t place = IsUnusedPlace t.places (Some place) × (t.next_number ≢ 2 ^ 64 - 1)
+
 -- this message is in mind (how the code is seen)
 abbrev pub IsInMind : Came → Arrived → Heard → Type 0
 IsInMind t a x = IsAt t.places a.place x × (x.number ≡ a.number)
+
+-- how the answer to a message is sent, where it is in mind; none where all was sent for it, or where it isn't in mind (RFC 7252, 5.2)
+abbrev pub WayBy : Came → Arrived → Option Way → Type 0
+WayBy t a None = (x : Heard) → IsInMind t a x → way_of x ≡ None
+WayBy t a (Some way) = (x : Heard) × IsInMind t a x × (way_of x ≡ Some way)
 
 -- what an answer does: it is noted once, where its message is in mind (RFC 7252, 5.2)
 abbrev pub AnswersBy : Came → Came → Arrived → Option Way → Type 0

@@ -47,6 +47,11 @@ abbrev pub RecallsAt : Option Heard → Again → Type 0
 RecallsAt None again = again ≡ Nothing
 RecallsAt (Some x) again = again ≡ again_of x
 
+-- how the answer to the message at a place is sent (how the code is seen)
+abbrev pub way_there : Option Heard → Option Way
+way_there None = None
+way_there (Some x) = way_of x
+
 -- what an answer does to a place, and how it is sent (how the code is seen)
 abbrev pub AnswersAt : Option Heard → Option Heard → Option Way → Type 0
 AnswersAt None new way = (new ≡ None) × (way ≡ None)

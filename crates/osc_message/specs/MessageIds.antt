@@ -14,6 +14,10 @@ pub record Gives (old new : Counted) (now id : ℕ) : Type 0 where
   pub count_is : new.count ≡ old.count + 1
   pub half : ((old.count % 32768 ≡ 0) × (247000 ≤ now - old.entered) × (new.entered ≡ now)) ⊎ ((old.count % 32768 ≢ 0) × (new.entered ≡ old.entered))
 
+-- this Message ID is the next: it would be given at this moment, and the counter goes on (RFC 7252, 4.4; own rule: 64 bits)
+abbrev pub IsNext : Counted → ℕ → ℕ → Type 0
+IsNext w now id = (new : Counted) × Gives w new now id × (new.count < 2 ^ 64)
+
 -- none is given: the next half can't begin yet, or all are counted (own rule)
 pub record Waits (old new : Counted) (now : ℕ) : Type 0 where
   pub same : new ≡ old

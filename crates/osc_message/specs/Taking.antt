@@ -17,6 +17,7 @@ use Rattle.osc_message.specs.Slots.{NonePasses}
 use Rattle.osc_message.specs.declared.exchanges.Polled.TheVariants as polled
 use Rattle.osc_message.specs.declared.messages.Due.{Due}
 use Rattle.osc_message.specs.declared.messages.Due.TheVariants as due
+use Rattle.osc_message.specs.declared.messages.Heading.{Heading}
 use Rattle.osc_message.specs.declared.messages.Taken.{Taken}
 use Rattle.osc_message.specs.declared.messages.Taken.TheVariants as taken
 
@@ -34,6 +35,15 @@ acked_at kind message_id = None
 abbrev pub acked_by : Parts → Option ℕ
 acked_by p = acked_at p.kind p.message_id
 
+-- a message of this Type gets an ACK: it is a CON (RFC 7252, 4.2)
+abbrev pub is_con : Kind → Bool
+is_con kinds.Con = true
+is_con kind = false
+
+-- what an ACK of a message needs: its Message ID, and whether it is a CON (RFC 7252, 3 and 4.2)
+abbrev pub heading_of : Parts → Heading
+heading_of p = record { message_id = p.message_id; confirmable = is_con p.kind }
+
 -- the message of ours that one is for which is empty, and that one is for which isn't (RFC 7252, 4.2 and 5.3.2)
 abbrev pub IsForBy : Bool → Table → List ℕ → Parts → Option Call → Type 0
 IsForBy true t from p waits = CallsFor t from p.message_id waits
@@ -46,8 +56,8 @@ IsFor t from p waits = IsForBy (p.code == 0) t from p waits
 -- what is done by the row that it is in (RFC 7252, 4.2 to 4.5)
 abbrev pub TakesBy : Layer → Layer → List ℕ → Parts → Option Repeated → Option Call → Incoming → Taken → Type 0
 TakesBy old new from p came waits rows.Again result = (r : Repeated) × (came ≡ Some r) × (result ≡ taken.Repeated r) × (new ≡ old)
-TakesBy old new from p came waits rows.Request result = (result ≡ taken.Request) × (new ≡ old)
-TakesBy old new from p came waits rows.Response result = (call : Call) × (waits ≡ Some call) × (result ≡ taken.Response call) × (new ≡ old)
+TakesBy old new from p came waits rows.Request result = (result ≡ taken.Request (heading_of p)) × (new ≡ old)
+TakesBy old new from p came waits rows.Response result = (call : Call) × (waits ≡ Some call) × (result ≡ taken.Response call (heading_of p)) × (new ≡ old)
 TakesBy old new from p came waits rows.Acknowledged (taken.Acknowledged acked) = Acknowledges old.sent new.sent from p.message_id acked × (new.came ≡ old.came)
 TakesBy old new from p came waits rows.Acknowledged result = ⊥
 TakesBy old new from p came waits rows.Reset (taken.Reset call) = Resets old.sent new.sent from p.message_id (Some call) × (new.came ≡ old.came)

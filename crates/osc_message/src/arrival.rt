@@ -3,7 +3,7 @@
 //!     came  1,500 ms  ACK  ..  a response of its own
 //!     came  a response in its ACK
 
-ghost use Rattle.std.specs.Prelude.{◌≡◌, ℕ, ◌<◌, false, true};
+ghost use Rattle.std.specs.Prelude.{◌≡◌, ℕ, ◌≤◌, ◌<◌, ◌-◌, ◌^◌, false, true};
 ghost use Rattle.osc_message.specs.Hearing.{acknowledged, answered, again_of, is_due, is_done, is_same, way_of};
 
 use crate::exchange::Address;
@@ -118,9 +118,10 @@ impl Arrival {
             && now.saturating_sub(self.moment) >= LATE_MS
     }
 
-    /// Returns a moment before which no ACK is to be sent by itself.
+    /// Returns the moment from which on its ACK is to be sent by itself, in milliseconds, or `u64::MAX`.
     pub(crate) fn wake(&self) -> u64
-        ensures { (now : ℕ) → now < result → is_due now (heard_of self.now) ≡ false }
+        ensures until { (now : ℕ) → now < result → is_due now (heard_of self.now) ≡ false }
+        ensures due { result < 2 ^ 64 - 1 → (now : ℕ) → result ≤ now → is_due now (heard_of self.now) ≡ true }
     {
         if self.confirmable && matches!(self.stage, Stage::Waiting) {
             self.moment.saturating_add(LATE_MS)

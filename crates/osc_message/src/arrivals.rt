@@ -1,13 +1,13 @@
 //! The messages that came to an endpoint, and what was sent for each (RFC 7252, 4.5 and 5.2).
 
-ghost use Rattle.std.specs.Prelude.{ℕ, ◌≡◌, ◌<◌, IfErr, IfNone, IfOk, IfSome, OnErr, false};
+ghost use Rattle.std.specs.Prelude.{ℕ, ◌≡◌, ◌≤◌, ◌<◌, ◌-◌, ◌^◌, IfErr, IfNone, IfOk, IfSome, IsOk, OnErr, false, length};
 ghost use Rattle.osc_message.specs.HearingCalls.{first_stage_of};
 
 use crate::arrival::{Again, Arrival, Stage, Way};
 use crate::exchange::Address;
 use crate::heard::{
     acknowledge_late_at, again_at, answer_at, earliest_due, find_due_ack, find_heard, find_unused,
-    is_there, sender_at,
+    is_there, sender_at, way_at,
 };
 use arrayvec::ArrayVec;
 use std::error::Error;
@@ -84,7 +84,8 @@ pub struct Arrivals<const N: usize> {
 impl<const N: usize> Arrivals<N> {
     ghost use Rattle.osc_message.specs.Arriving.{Start, arrived};
     ghost use Rattle.osc_message.specs.Hearing.{Heard, is_due};
-    ghost use Rattle.osc_message.specs.HearingCalls.{AcksBy, AnswersBy, IsFirstReason, NotesBy, Recalls};
+    ghost use Rattle.osc_message.specs.HearingCalls.{AcksBy, AnswersBy, IsFirstReason, MayNote, NotesBy, Recalls, WayBy};
+    ghost use Rattle.osc_message.specs.declared.arrivals.NoteError.{NoteError};
     ghost use Rattle.osc_message.specs.HearingViews.{came_of};
     ghost use Rattle.osc_message.specs.Slots.{IsAt, NonePasses};
 
@@ -119,11 +120,36 @@ impl<const N: usize> Arrivals<N> {
     pub fn sender(&self, place: usize) -> Option<(&[u8], u16)>
         ensures from { IfSome result (λ r. (x : Heard) × IsAt (came_of self.now).places place x × (r.0.now ≡ x.from) × (r.1 ≡ x.message_id)) }
         ensures free { IfNone result ((x : Heard) → IsAt (came_of self.now).places place x → ⊥) }
+        ensures within { IfSome result (λ r. length r.0.now ≤ 28) }
     {
         if place >= self.places.len() {
             return None;
         }
         sender_at(&self.places[place])
+    }
+
+    /// Returns the place of the next message, or the first refusal in the order of `NoteError`.
+    fn next_place(&self) -> Result<usize, NoteError>
+        ensures found { IfOk result (λ place. MayNote (came_of self.now) place) }
+        ensures refused { IfErr result (λ e. IsFirstReason (came_of self.now) e) }
+    {
+        let Some(place) = find_unused(self.places.as_slice()) else {
+            return Err(NoteError::Full);
+        };
+        if self.next_number == u64::MAX {
+            return Err(NoteError::NumbersExhausted);
+        }
+        Ok(place)
+    }
+
+    /// Says whether `note` would keep a message in mind now, and changes nothing: so you know it before you deliver one. Returns the first refusal
+    /// in the order of `NoteError`: no place can be used anew, no number is left (own rule).
+    pub fn check_note(&self) -> Result<(), NoteError>
+        ensures accepted { IsOk result → (e : NoteError) → IsFirstReason (came_of self.now) e → ⊥ }
+        ensures refused { IfErr result (λ e. IsFirstReason (came_of self.now) e) }
+    {
+        self.next_place()?;
+        Ok(())
     }
 
     /// Keeps a message in mind that has opened, at this moment. What didn't open isn't kept: else anyone could put something in the place of a
@@ -134,13 +160,8 @@ impl<const N: usize> Arrivals<N> {
         ensures refused { IfErr result (λ e. IsFirstReason (came_of self.old) e) }
         ensures unchanged { OnErr result (self.new ≡ self.old) }
     {
-        let Some(place) = find_unused(self.places.as_slice()) else {
-            return Err(NoteError::Full);
-        };
+        let place = self.next_place()?;
         let number = self.next_number;
-        if number == u64::MAX {
-            return Err(NoteError::NumbersExhausted);
-        }
         let stage = first_stage(message.awaits_answer);
         self.places[place] = Some(Arrival {
             number,
@@ -152,6 +173,18 @@ impl<const N: usize> Arrivals<N> {
         });
         self.next_number = number + 1;
         Ok(Arrived { number, place })
+    }
+
+    /// Returns how an answer to a message is sent, as `answer` would return it now, and changes nothing: `None` if it was answered before, or is
+    /// forgotten (RFC 7252, 5.2).
+    #[must_use]
+    pub fn way(&self, arrived: Arrived) -> Option<Way>
+        ensures { WayBy (came_of self.now) arrived result }
+    {
+        if !is_there(self.places.as_slice(), arrived.number, arrived.place) {
+            return None;
+        }
+        way_at(&self.places[arrived.place])
     }
 
     /// Notes that a message is answered now, and returns how. Returns `None` if it was answered before, or is forgotten, and then changes nothing
@@ -177,10 +210,12 @@ impl<const N: usize> Arrivals<N> {
         Some(Arrived { number, place })
     }
 
-    /// Returns a moment before which no ACK is due, so that you can sleep until then: `u64::MAX` if no request waits.
+    /// Returns the moment until which no ACK is due, in milliseconds: sleep until then. From it on one is to be sent by itself (RFC 7252, 5.2.2).
+    /// It is `u64::MAX` if no request waits.
     #[must_use]
     pub fn wake(&self) -> u64
-        ensures { (now : ℕ) → now < result → NonePasses (is_due now) (came_of self.now).places }
+        ensures until { (now : ℕ) → now < result → NonePasses (is_due now) (came_of self.now).places }
+        ensures due { result < 2 ^ 64 - 1 → (now : ℕ) → result ≤ now → NonePasses (is_due now) (came_of self.now).places → ⊥ }
     {
         earliest_due(self.places.as_slice())
     }

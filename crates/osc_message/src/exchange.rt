@@ -2,7 +2,7 @@
 //!
 //!     sent  1st wait  again  2 waits  again  4 waits  again  8 waits  again  16 waits  given up
 
-ghost use Rattle.std.specs.Prelude.{ℕ, ◌≡◌, ◌≤◌, ◌<◌, false};
+ghost use Rattle.std.specs.Prelude.{ℕ, ◌≡◌, ◌≤◌, ◌<◌, ◌-◌, ◌^◌, false};
 ghost use Rattle.osc_message.specs.Sending.{again, is_awaited, is_for, is_unacknowledged, step, stopped, wait};
 ghost use Rattle.osc_message.specs.declared.exchange.Step.TheVariants as steps;
 
@@ -91,9 +91,10 @@ impl Exchange {
         }
     }
 
-    /// Returns a moment before which nothing is to be done about the message.
+    /// Returns the moment from which on something is to be done about the message, in milliseconds, or `u64::MAX`.
     pub(crate) fn wake(&self) -> u64
-        ensures { (now : ℕ) → now < result → step (sending_of self.now) now ≡ steps.Rest }
+        ensures until { (now : ℕ) → now < result → step (sending_of self.now) now ≡ steps.Rest }
+        ensures due { result < 2 ^ 64 - 1 → (now : ℕ) → result ≤ now → step (sending_of self.now) now ≡ steps.Rest → ⊥ }
     {
         let end = self.begun.saturating_add(MAX_TRANSMIT_WAIT_MS);
         if self.acked {

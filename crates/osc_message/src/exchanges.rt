@@ -1,6 +1,6 @@
 //! The confirmable messages of an endpoint that are on their way (RFC 7252, 4.2 and 4.7).
 
-ghost use Rattle.std.specs.Prelude.{ℕ, ◌≡◌, ◌<◌, IfErr, IfNone, IfOk, IfSome, OnErr, length, true, false};
+ghost use Rattle.std.specs.Prelude.{ℕ, ◌≡◌, ◌≤◌, ◌<◌, ◌-◌, ◌^◌, IfErr, IfNone, IfOk, IfSome, IsOk, OnErr, length, true, false};
 
 use crate::exchange::{Address, Awaits, Exchange};
 use crate::place::{AckedAt, acknowledge_at, address_at, end_at, number_at, send_again_at};
@@ -95,7 +95,8 @@ pub struct Exchanges<const N: usize> {
 }
 
 impl<const N: usize> Exchanges<N> {
-    ghost use Rattle.osc_message.specs.Calls.{Acknowledges, AwaitsBy, BeginsBy, CallsFor, EndsCall, IsFirstReason, Polls, Resets};
+    ghost use Rattle.osc_message.specs.Calls.{Acknowledges, AwaitsBy, BeginsBy, CallsFor, EndsCall, IsFirstReason, MayBegin, Polls, Resets};
+    ghost use Rattle.osc_message.specs.declared.exchanges.BeginError.{BeginError};
     ghost use Rattle.osc_message.specs.Sending.{Sending};
     ghost use Rattle.osc_message.specs.Slots.{IsAt};
     ghost use Rattle.osc_message.specs.Table.{Rests, Start, table};
@@ -116,6 +117,33 @@ impl<const N: usize> Exchanges<N> {
         }
     }
 
+    /// Returns the free place of a message to this address, or the first refusal in the order of `BeginError`.
+    fn place_for(&self, to: &[u8]) -> Result<usize, BeginError>
+        ensures found { IfOk result (λ place. MayBegin (table_of self.now) to.now place) }
+        ensures refused { IfErr result (λ e. IsFirstReason (table_of self.now) to.now e) }
+    {
+        if !is_idle(self.places.as_slice(), to) {
+            return Err(BeginError::Busy);
+        }
+        let Some(place) = find_free(self.places.as_slice()) else {
+            return Err(BeginError::Full);
+        };
+        if self.next_call == u64::MAX {
+            return Err(BeginError::CallsExhausted);
+        }
+        Ok(place)
+    }
+
+    /// Says whether `begin` would take a message to this address now, and changes nothing: so you know it before you seal one. Returns the first
+    /// refusal in the order of `BeginError`: another message to it is without its ACK, no place is free, no number is left (RFC 7252, 4.7).
+    pub fn check_begin(&self, to: &[u8]) -> Result<(), BeginError>
+        ensures accepted { IsOk result → (e : BeginError) → IsFirstReason (table_of self.now) to.now e → ⊥ }
+        ensures refused { IfErr result (λ e. IsFirstReason (table_of self.now) to.now e) }
+    {
+        self.place_for(to)?;
+        Ok(())
+    }
+
     /// Notes that a confirmable message is sent first, at this moment, and returns its call. The first wait is 2 to 3 seconds long, by `random`,
     /// which you draw anew each time (RFC 7252, 4.2). Returns the first refusal in the order of `BeginError`, which changes nothing: then don't
     /// send it.
@@ -124,16 +152,8 @@ impl<const N: usize> Exchanges<N> {
         ensures refused { IfErr result (λ e. IsFirstReason (table_of self.old) message.to.items e) }
         ensures unchanged { OnErr result (self.new ≡ self.old) }
     {
-        if !is_idle(self.places.as_slice(), &message.to) {
-            return Err(BeginError::Busy);
-        }
-        let Some(place) = find_free(self.places.as_slice()) else {
-            return Err(BeginError::Full);
-        };
+        let place = self.place_for(&message.to)?;
         let number = self.next_call;
-        if number == u64::MAX {
-            return Err(BeginError::CallsExhausted);
-        }
         self.places[place] = Some(Exchange {
             call: number,
             to: message.to,
@@ -243,10 +263,12 @@ impl<const N: usize> Exchanges<N> {
         }
     }
 
-    /// Returns a moment before which `poll` returns `Rest`, so that you can sleep until then: `u64::MAX` if nothing is on its way.
+    /// Returns the moment until which `poll` returns `Rest`, in milliseconds: sleep until then. From it on something is to be done: a message is
+    /// to be sent again or given up (RFC 7252, 4.2). It is `u64::MAX` if nothing is on its way.
     #[must_use]
     pub fn wake(&self) -> u64
-        ensures { (now : ℕ) → now < result → Rests (table_of self.now).places now }
+        ensures until { (now : ℕ) → now < result → Rests (table_of self.now).places now }
+        ensures due { result < 2 ^ 64 - 1 → (now : ℕ) → result ≤ now → Rests (table_of self.now).places now → ⊥ }
     {
         earliest(self.places.as_slice())
     }

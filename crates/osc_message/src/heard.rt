@@ -1,8 +1,8 @@
 //! Searches through the places of messages that came, and what is done at one of them.
 
-ghost use Rattle.std.specs.Prelude.{ℕ, ◌≡◌, ◌<◌, IfNone, IfSome, None, Option, Some, false, map, true};
+ghost use Rattle.std.specs.Prelude.{ℕ, ◌≡◌, ◌≤◌, ◌<◌, ◌-◌, ◌^◌, IfNone, IfSome, None, Option, Some, false, map, true, length};
 ghost use Rattle.osc_message.specs.Hearing.{Heard, is_due, is_same};
-ghost use Rattle.osc_message.specs.HearingFinding.{AcksAt, AnswersAt, IsOldestDone, IsUnusedPlace, RecallsAt, done_number, is_numbered, older_of};
+ghost use Rattle.osc_message.specs.HearingFinding.{AcksAt, AnswersAt, IsOldestDone, IsUnusedPlace, RecallsAt, done_number, is_numbered, older_of, way_there};
 ghost use Rattle.osc_message.specs.HearingViews.{seen_of};
 ghost use Rattle.osc_message.specs.Slots.{IsAt, IsFreePlace, IsPlaceOf, NonePasses, holds};
 
@@ -62,9 +62,20 @@ pub(crate) fn again_at(place: &Option<Arrival>) -> Again
 pub(crate) fn sender_at(place: &Option<Arrival>) -> Option<(&[u8], u16)>
     ensures from { IfSome result (λ r. (x : Heard) × (seen_of place.now ≡ Some x) × (r.0.now ≡ x.from) × (r.1 ≡ x.message_id)) }
     ensures free { IfNone result (seen_of place.now ≡ None) }
+    ensures within { IfSome result (λ r. length r.0.now ≤ 28) }
 {
     match place {
         Some(arrival) => Some((arrival.from.as_slice(), arrival.message_id)),
+        None => None,
+    }
+}
+
+/// Returns how the answer to the message at a place is sent.
+pub(crate) fn way_at(place: &Option<Arrival>) -> Option<Way>
+    ensures { result ≡ way_there (seen_of place.now) }
+{
+    match place {
+        Some(arrival) => arrival.way(),
         None => None,
     }
 }
@@ -192,9 +203,10 @@ pub(crate) fn find_unused(places: &[Option<Arrival>]) -> Option<usize>
     }
 }
 
-/// Returns a moment before which no ACK of the message at a place is to be sent by itself.
+/// Returns the moment from which on the ACK of the message at a place is to be sent by itself, or `u64::MAX`.
 fn wake_at(place: &Option<Arrival>) -> u64
-    ensures { (now : ℕ) → now < result → holds (is_due now) (seen_of place.now) ≡ false }
+    ensures until { (now : ℕ) → now < result → holds (is_due now) (seen_of place.now) ≡ false }
+    ensures due { result < 2 ^ 64 - 1 → (now : ℕ) → result ≤ now → holds (is_due now) (seen_of place.now) ≡ true }
 {
     match place {
         Some(arrival) => arrival.wake(),
@@ -202,9 +214,10 @@ fn wake_at(place: &Option<Arrival>) -> u64
     }
 }
 
-/// Returns a moment before which no ACK is to be sent by itself.
+/// Returns the moment from which on an ACK is to be sent by itself, or `u64::MAX`.
 pub(crate) fn earliest_due(places: &[Option<Arrival>]) -> u64
-    ensures { (now : ℕ) → now < result → NonePasses (is_due now) (map seen_of places.now) }
+    ensures until { (now : ℕ) → now < result → NonePasses (is_due now) (map seen_of places.now) }
+    ensures due { result < 2 ^ 64 - 1 → (now : ℕ) → result ≤ now → NonePasses (is_due now) (map seen_of places.now) → ⊥ }
 {
     let mut wake = u64::MAX;
     for place in 0..places.len() {

@@ -25,5 +25,5 @@ pub use laws::{
     messages_go_out_at_their_times, one_message_to_a_peer,
 };
 pub use message_ids::MessageIds;
-pub use messages::{Due, Messages, Taken, reject_unreadable};
+pub use messages::{Due, Heading, Messages, Taken, reject_unreadable};
 pub use separate::{Separate, make_separate};

@@ -1,7 +1,7 @@
 //! Message IDs that don't come again in EXCHANGE_LIFETIME (RFC 7252, 4.4).
 
 ghost use Rattle.std.specs.Prelude.{◌≡◌, ◌<◌, ◌+◌, ◌^◌, IfNone, IfSome};
-ghost use Rattle.osc_message.specs.MessageIds.{Gives, Waits};
+ghost use Rattle.osc_message.specs.MessageIds.{Gives, IsNext, Waits};
 
 /// EXCHANGE_LIFETIME, in milliseconds (RFC 7252, 4.8.2).
 const EXCHANGE_LIFETIME_MS: u64 = 247_000;
@@ -34,23 +34,32 @@ impl MessageIds {
         }
     }
 
+    /// Returns the Message ID that `give` would give at this moment, in milliseconds, and gives none. Returns `None` if the next half can't begin
+    /// yet, and after 2^64 - 1 of them (RFC 7252, 4.4).
+    #[must_use]
+    pub fn next(&self, now: u64) -> Option<u16>
+        ensures some { IfSome result (λ id. IsNext (counted_of self.now) now id) }
+        ensures none { IfNone result (Waits (counted_of self.now) (counted_of self.now) now) }
+    {
+        let count = self.count;
+        let waits = count % HALF == 0 && now.saturating_sub(self.entered) < EXCHANGE_LIFETIME_MS;
+        if waits || count == u64::MAX {
+            return None;
+        }
+        Some((count % (2 * HALF)) as u16)
+    }
+
     /// Gives the next Message ID. Returns `None` if the next half can't begin yet, and after 2^64 - 1 of them. The moments that you hand in must
     /// not go back.
     pub fn give(&mut self, now: u64) -> Option<u16>
         ensures gives { IfSome result (λ id. Gives (counted_of self.old) (counted_of self.new) now id) }
         ensures waits { IfNone result (Waits (counted_of self.old) (counted_of self.new) now) }
     {
-        let count = self.count;
-        if count == u64::MAX {
-            return None;
-        }
-        if count % HALF == 0 {
-            if now.saturating_sub(self.entered) < EXCHANGE_LIFETIME_MS {
-                return None;
-            }
+        let id = self.next(now)?;
+        if self.count % HALF == 0 {
             self.entered = now;
         }
-        self.count = count + 1;
-        Some((count % (2 * HALF)) as u16)
+        self.count += 1;
+        Some(id)
     }
 }

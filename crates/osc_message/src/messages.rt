@@ -1,10 +1,10 @@
 //! The message layer of an endpoint: the messages on their way, those that came, and the Message IDs (RFC 7252, 4).
 
-ghost use Rattle.std.specs.Prelude.{ℕ, ◌≡◌, ◌<◌, IfErr, IfOk, IfSome, OnErr, OnOk, List, None, Some};
+ghost use Rattle.std.specs.Prelude.{ℕ, ◌≡◌, ◌≤◌, ◌<◌, ◌-◌, ◌^◌, IfErr, IfOk, IfSome, OnErr, OnOk, List, None, Some};
 ghost use Rattle.osc_coap.specs.Datagram.{IsDatagram, Parts};
 ghost use Rattle.osc_coap.specs.Views.{parts_of};
 ghost use Rattle.osc_message.specs.Incoming.{empty};
-ghost use Rattle.osc_message.specs.Taking.{acked_by, unreadable};
+ghost use Rattle.osc_message.specs.Taking.{acked_by, heading_of, unreadable};
 ghost use Rattle.osc_coap.specs.declared.message.Kind.TheVariants.{Rst};
 
 use crate::arrivals::{Arrivals, Arrived, Repeated};
@@ -13,13 +13,22 @@ use crate::incoming::{Incoming, empty_message, judge_incoming};
 use crate::message_ids::MessageIds;
 use osc_coap::{Kind, Message, one_datagram, parse};
 
+/// What an ACK of a message that came needs: its Message ID, high byte first on the wire, and whether it is a CON (RFC 7252, 3 and 4.2).
+#[derive(Clone, Copy, Debug, PartialEq, Eq)]
+pub struct Heading {
+    pub message_id: u16,
+    /// Whether it is a CON: any other message gets no ACK.
+    pub confirmable: bool,
+}
+
 /// What a datagram that came is, and what is to be done about it.
 #[derive(Clone, Copy, Debug, PartialEq, Eq)]
 pub enum Taken {
-    /// A request. Open it, `note` it if it is delivered, and `answer` it.
-    Request,
-    /// A response to the request of this call. Open it, and `end` the call if it is delivered; one that is a CON gets an ACK then, and is noted.
-    Response(Call),
+    /// A request, and what an ACK of it needs. Open it, `note` it if it is delivered, and `answer` it.
+    Request(Heading),
+    /// A response to the request of this call, and what an ACK of it needs. Open it, and `end` the call if it is delivered; one that is a CON gets
+    /// an ACK then, and is noted.
+    Response(Call, Heading),
     /// A message that came before, and what it gets.
     Repeated(Repeated),
     /// An empty ACK, and what it did.
@@ -52,6 +61,16 @@ fn acked_by_message(message: &Message<'_>) -> Option<u16>
     match message.kind {
         Kind::Ack => Some(message.message_id),
         Kind::Con | Kind::Non | Kind::Rst => None,
+    }
+}
+
+/// Returns what an ACK of a message needs.
+fn read_heading(message: &Message<'_>) -> Heading
+    ensures { result ≡ heading_of (parts_of message.now) }
+{
+    Heading {
+        message_id: message.message_id,
+        confirmable: matches!(message.kind, Kind::Con),
     }
 }
 
@@ -116,7 +135,8 @@ impl<const N: usize, const M: usize> Messages<N, M> {
 
     /// Does what is to be done about a message that came.
     fn take_message(&mut self, now: u64, from: &[u8], message: &Message<'_>) -> Taken
-        ensures { Takes (layer_of self.old) (layer_of self.new) from.now now (parts_of message.now) result }
+        ensures taken { Takes (layer_of self.old) (layer_of self.new) from.now now (parts_of message.now) result }
+        ensures ids { self.new.ids ≡ self.old.ids }
     {
         let waits = self.call_of(from, message);
         let came = self.arrivals.recall(from, message.message_id, now);
@@ -126,9 +146,9 @@ impl<const N: usize, const M: usize> Messages<N, M> {
                 Some(repeated) => Taken::Repeated(repeated),
                 None => unreachable!(),
             },
-            Incoming::Request => Taken::Request,
+            Incoming::Request => Taken::Request(read_heading(message)),
             Incoming::Response => match waits {
-                Some(call) => Taken::Response(call),
+                Some(call) => Taken::Response(call, read_heading(message)),
                 None => unreachable!(),
             },
             Incoming::Acknowledged => {
@@ -148,6 +168,7 @@ impl<const N: usize, const M: usize> Messages<N, M> {
     pub fn take(&mut self, now: u64, from: &[u8], datagram: &[u8]) -> Taken
         ensures message { (p : Parts) → IsDatagram p datagram.now → Takes (layer_of self.old) (layer_of self.new) from.now now p result }
         ensures none { ((p : Parts) → IsDatagram p datagram.now → ⊥) → (layer_of self.new ≡ layer_of self.old) × IsUnreadable datagram.now result }
+        ensures ids { self.new.ids ≡ self.old.ids }
     {
         // For the proof alone.
         one_datagram();
@@ -174,10 +195,12 @@ impl<const N: usize, const M: usize> Messages<N, M> {
         }
     }
 
-    /// Returns a moment before which `poll` returns `Nothing`, so that you can sleep until then: `u64::MAX` if nothing is to come.
+    /// Returns the moment until which `poll` returns `Nothing`, in milliseconds: sleep until then. From it on something is to be done, however late
+    /// you ask (RFC 7252, 4.2 and 5.2.2). It is `u64::MAX` if nothing is to come.
     #[must_use]
     pub fn wake(&self) -> u64
-        ensures { (now : ℕ) → now < result → RestsLayer (layer_of self.now) now }
+        ensures until { (now : ℕ) → now < result → RestsLayer (layer_of self.now) now }
+        ensures due { result < 2 ^ 64 - 1 → (now : ℕ) → result ≤ now → RestsLayer (layer_of self.now) now → ⊥ }
     {
         self.exchanges.wake().min(self.arrivals.wake())
     }

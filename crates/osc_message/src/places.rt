@@ -1,6 +1,6 @@
 //! Searches through the places of a table.
 
-ghost use Rattle.std.specs.Prelude.{ℕ, ◌≡◌, ◌<◌, false, map, true};
+ghost use Rattle.std.specs.Prelude.{ℕ, ◌≡◌, ◌≤◌, ◌<◌, ◌-◌, ◌^◌, false, map, true};
 ghost use Rattle.osc_message.specs.Finding.{Finds, is_of_call, step_at_place};
 ghost use Rattle.osc_message.specs.Sending.{Sending, is_awaited, is_for, is_unacknowledged};
 ghost use Rattle.osc_message.specs.Slots.{IsAt, IsFreePlace, IsPlaceOf, NonePasses, holds};
@@ -147,9 +147,10 @@ pub(crate) fn find_due(places: &[Option<Exchange>], now: u64) -> Found
     Found::Rest
 }
 
-/// Returns a moment before which nothing is to be done about the message at a place.
+/// Returns the moment from which on something is to be done about the message at a place, or `u64::MAX`.
 fn wake_at(place: &Option<Exchange>) -> u64
-    ensures { (now : ℕ) → now < result → step_at_place (place_of place.now) now ≡ steps.Rest }
+    ensures until { (now : ℕ) → now < result → step_at_place (place_of place.now) now ≡ steps.Rest }
+    ensures due { result < 2 ^ 64 - 1 → (now : ℕ) → result ≤ now → step_at_place (place_of place.now) now ≡ steps.Rest → ⊥ }
 {
     match place {
         Some(exchange) => exchange.wake(),
@@ -157,9 +158,10 @@ fn wake_at(place: &Option<Exchange>) -> u64
     }
 }
 
-/// Returns a moment before which nothing is to be done about any message.
+/// Returns the moment from which on something is to be done about a message, or `u64::MAX`.
 pub(crate) fn earliest(places: &[Option<Exchange>]) -> u64
-    ensures { (now : ℕ) → now < result → Rests (map place_of places.now) now }
+    ensures until { (now : ℕ) → now < result → Rests (map place_of places.now) now }
+    ensures due { result < 2 ^ 64 - 1 → (now : ℕ) → result ≤ now → Rests (map place_of places.now) now → ⊥ }
 {
     let mut wake = u64::MAX;
     for place in 0..places.len() {

@@ -7,3 +7,4 @@ pub mod CallLemmas
 mod HeardEchoes
 mod FreshCalls
 pub mod TakenClauses
+mod NodeClauses

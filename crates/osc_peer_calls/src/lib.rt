@@ -8,6 +8,7 @@ mod beginning;
 mod challenging;
 mod echoing;
 mod laws;
+mod noding;
 mod remembering;
 
 pub use answering::{decide_in_list, notify_in_list, reply_in_list, take_in_list};
@@ -23,4 +24,5 @@ pub use echoing::{
 pub use laws::{
     heard_stays, peer_calls_in_list, peers_are_alike, peers_are_fresh, peers_by_numbers,
 };
+pub use noding::decide_at_node_in_list;
 pub use remembering::{reply_again_in_list, take_again_in_list};

@@ -1,0 +1,6 @@
+mod Asked
+mod Decided
+mod Heard
+mod Noted
+mod Planned
+mod Taken

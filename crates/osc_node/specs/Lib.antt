@@ -1,0 +1,6 @@
+pub mod Deciding
+pub mod Planning
+pub mod Requesting
+pub mod Responding
+pub mod Settling
+pub mod Text
