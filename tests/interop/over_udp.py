@@ -2,6 +2,8 @@
 
     over_udp.py library|library-blocks|library-observe OURS PEER [THEIRS]
         OURS holds our programs lock, key, mirror and calls, or sensor, reader, and a sensor in the folder hasty that waits less
+    over_udp.py node OURS PEER [THEIRS]
+        OURS holds the programs lock and key of examples/
     over_udp.py command|command-blocks OSCORE PEER [THEIRS]
         OSCORE is our program of that name
 
@@ -20,11 +22,12 @@ from bench import Bench
 from block_rows import BlockRows, CommandBlockRows
 from command_rows import CommandRows
 from libcoap import Libcoap
+from node_rows import NodeBench, NodeRows
 from observe_rows import ObserveRows
 from rows import Rows
 
 ROWS = {"library": (Rows, "the library"), "library-blocks": (BlockRows, "the library's blocks"), "command": (CommandRows, "the command"),
-        "command-blocks": (CommandBlockRows, "the command's blocks"), "library-observe": (ObserveRows, "the library's observations")}
+        "command-blocks": (CommandBlockRows, "the command's blocks"), "node": (NodeRows, "a node"), "library-observe": (ObserveRows, "the library's observations")}
 """The rows of each first word, and whose they are."""
 
 
@@ -35,7 +38,7 @@ def main(words: List[str]) -> int:
     # Whoever ends this program early ends its servers too.
     signal.signal(signal.SIGTERM, lambda *_: sys.exit(1))
     with tempfile.TemporaryDirectory() as work:
-        bench = Bench(ours, pathlib.Path(work))
+        bench = (NodeBench if what == "node" else Bench)(ours, pathlib.Path(work))
         peer = Aiocoap(bench) if name == "aiocoap" else Libcoap(bench, theirs[0])
         named = peer.begin()
         rows, whose = ROWS[what]

@@ -20,96 +20,13 @@ done
 # A reader that gives up after four seconds in which it hears nothing new.
 cc -std=c11 -Wall -Wextra -Werror -O1 -D ACK_TIMEOUT_MS=3000 -D MAX_AGE_MS=4000 -I .. "$@" reader.c "$library" -o "$work/hasty"
 mkfifo "$work/says"
-
-# Starts a lock or a sensor for so many datagrams; its first line says its port.
-begin() {
-    echo "== $*"
-    (cd "$work" && exec "./$1" 0 "${@:2}") > "$work/says" &
-    server=$! serves=$1
-    exec 3< "$work/says"
-    read -r -t 10 _ port <&3
-}
-
-# Shows what a program says that stops at once, for the sake of its record.
-refused() {
-    echo "-- $*"
-    (cd "$work" && timeout 20 "./$1" "${@:2}") | sed "s/^/$1: /" && return 1
-    return 0
-}
-
-# Shows what it printed until it ended.
-finish() {
-    timeout 20 cat <&3 | sed "s/^/$serves: /"
-    exec 3<&-
-    wait "$server"
-    server=
-}
-
-# Lets a key or a reader speak. The hasty reader gives up.
-ask() {
-    echo "-- $*"
-    (cd "$work" && timeout 30 "./$1" "$port" "${@:2}") | sed "s/^/$1: /" || [ "$1" = hasty ]
-}
-
-# Sends a datagram once more, as somebody who overheard it and has no key can. All that is read of the reply is its code: 2.04 where it
-# is protected (RFC 8613, 4.2).
-replay() {
-    local code
-    echo "-- replay $1"
-    exec 4<> "/dev/udp/127.0.0.1/$port"
-    cat "$work/$1" >&4
-    code=$(timeout 20 dd bs=1500 count=1 status=none <&4 | od -An -tu1 -j 1 -N 1)
-    exec 4>&-
-    printf 'overheard: %u.%02u\n' "$((code >> 5))" "$((code & 31))"
-}
-
-# Lets them speak through a network that is as between.c says.
-behind() {
-    local port=$port how=$1
-    echo "-- between $how"
-    exec 5< <(exec "$work/between" "$port" "$how")
-    between=$!
-    read -r -t 10 _ port <&5
-    ask "${@:2}"
-    [ "$how" != separate ] || { read -r -t 10 line <&5 && echo "between: $line"; }
-    kill "$between"
-    between=
-    sed 's/^/between: /' <&5
-    exec 5<&-
-}
+. ./scenes
 
 # The numbers in a record: those of the place with the greater generation (oscore_store.h).
 kept() {
     local place
     for place in 0 4096; do od -An -v -w24 -tu8 -j $((place + 8)) -N 24 "$work/$1"; done | sort -n \
         | awk -v name="$1" 'END { print name " keeps sender " $2 ", received " $3 }'
-}
-
-of_lock_and_key() {
-    # Where no first run made the record, nothing runs.
-    refused lock 0 1 lock.record
-    begin lock 3 lock.record first
-    ask key key.record shut first
-    # A second lock over the same record doesn't run beside the first.
-    refused lock 0 1 lock.record
-    ask key key.record open sent
-    replay sent.64
-    finish
-    # What was made isn't made again.
-    refused lock 0 1 lock.record first
-    # A lock that ran before obeys at once what is new, and nothing that came before.
-    begin lock 2 lock.record
-    replay sent.64
-    ask key key.record shut sent
-    finish
-    # A datagram that is lost: the door opens once, and the key learns it. The second one's request comes twice.
-    begin lock 4 lock.record
-    behind request key key.record open
-    behind reply key key.record shut
-    behind separate key key.record open
-    finish
-    kept lock.record
-    kept key.record
 }
 
 # A lock that obeyed nothing in its first run, to which a datagram comes that is another lock's.
@@ -171,6 +88,8 @@ of_sensor_and_reader() {
 
 says() {
     of_lock_and_key
+    kept lock.record
+    kept key.record
     of_another_lock
     of_sensor_and_reader
 }

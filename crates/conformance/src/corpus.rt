@@ -113,7 +113,8 @@ impl<'t> Corpus<'t> {
             | "peers-in-turn"
             | "peer-bytes"
             | "messages"
-            | "node" => {
+            | "node"
+            | "observers" => {
                 ends::make(row.verb, row.fields, contexts, &mut answer);
             }
             verb => {

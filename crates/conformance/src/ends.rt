@@ -5,7 +5,7 @@ use crate::fields::NamedContext;
 use crate::keeper::Memory;
 use crate::peer_bytes::PeerBytes;
 use crate::steps::{Step, Way, steps_of};
-use crate::{client, kept, messages, nodes, peer, server, turns};
+use crate::{client, kept, messages, nodes, observing, peer, server, turns};
 use osc_kept::{KeptClient, KeptServer};
 use std::alloc::AllocError;
 
@@ -71,6 +71,7 @@ pub(crate) fn make<'t>(
         "peers-in-turn" => turns::make(&steps, answer),
         "messages" => messages::make(&steps, answer),
         "node" => nodes::make(&steps, answer),
+        "observers" => observing::make(&steps, answer),
         "peer-bytes" => in_both_ways::<PeerBytes>(first, rest, answer),
         _ => answer.is_whole = false,
     }

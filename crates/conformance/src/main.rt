@@ -24,6 +24,7 @@ mod kept;
 mod messages;
 mod nodes;
 mod numbers;
+mod observing;
 mod peer;
 mod peer_alike;
 mod peer_bytes;

@@ -25,7 +25,7 @@ pub(crate) fn address(fields: &Fields<'_>, place: usize) -> Address {
 }
 
 /// Reads a token, of at most 8 bytes.
-fn token(fields: &Fields<'_>, place: usize) -> Token {
+pub(crate) fn token(fields: &Fields<'_>, place: usize) -> Token {
     let mut token = Token::new();
     if token.try_extend_from_slice(fields.bytes(place)).is_err() {
         fields.refuse();

@@ -11,8 +11,8 @@ use crate::steps::{FILLED_WITH, Step};
 use osc_context::KeptNumbers;
 use osc_endpoint::{ClientOutcome, Decided, Decision, Outcome, Ticket};
 use osc_kept_ends::KeptPeer;
-use osc_message::{Address, Again, Arrived, Messages, Repeated};
-use osc_node::{Node, NodeDecided, NodeDecision, Responded};
+use osc_message::{Address, Again, Arrived, Messages, Repeated, Separate};
+use osc_node::{Node, NodeDecided, NodeDecision, Notified, Responded};
 use osc_window::WindowSize;
 
 /// How long a request of a node is pending, in milliseconds.
@@ -184,6 +184,57 @@ fn respond(serving: &mut Serving<'_>, fields: &Fields<'_>, answer: &mut Answer) 
     }
 }
 
+/// Makes `observe NOW NUMBER PLACE RANDOM PLAIN`: the registration that was delivered last gets its first notification, as the message with this
+/// number at this place, and its ticket stays.
+fn observe(serving: &mut Serving<'_>, fields: &Fields<'_>, answer: &mut Answer) {
+    fields.count(5);
+    let (Some(plain), Some(ticket)) = (fields.message(4), serving.ticket.as_ref()) else {
+        return fields.refuse();
+    };
+    let arrived = Arrived {
+        number: fields.number(1),
+        place: fields.index(2),
+    };
+    let (now, random) = (fields.number(0), fields.message_id(3));
+    let mut out = [FILLED_WITH; MOST_BYTES];
+    match serving
+        .node
+        .begin_observation(now, arrived, ticket, random, &plain, &mut out)
+    {
+        Ok(responded) => show_responded(responded, &out, answer),
+        Err(refusal) => answer.refused(refusal),
+    }
+}
+
+/// Makes `notify NOW TO con|non RANDOM PLAIN`: who registered by the request that was delivered last is notified.
+fn notify(serving: &mut Serving<'_>, fields: &Fields<'_>, answer: &mut Answer) {
+    fields.count(5);
+    let (Some(plain), Some(ticket)) = (fields.message(4), serving.ticket.as_ref()) else {
+        return fields.refuse();
+    };
+    let separate = if fields.word(2) == "con" {
+        Separate::Con
+    } else {
+        Separate::Non
+    };
+    let (now, to, random) = (fields.number(0), address(fields, 1), fields.message_id(3));
+    let mut out = [FILLED_WITH; MOST_BYTES];
+    match serving
+        .node
+        .notify(now, to, ticket, separate, random, &plain, &mut out)
+    {
+        Ok(Notified::Non(len)) => {
+            answer.word("non");
+            show_front(&out, len, answer);
+        }
+        Ok(Notified::Con(sent)) => {
+            show_call("con", sent.call, answer);
+            show_front(&out, sent.len, answer);
+        }
+        Err(refusal) => answer.refused(refusal),
+    }
+}
+
 /// Makes one step of a row.
 fn step(serving: &mut Serving<'_>, step: &Step<'_>, answer: &mut Answer) {
     let fields = &step.fields;
@@ -191,6 +242,8 @@ fn step(serving: &mut Serving<'_>, step: &Step<'_>, answer: &mut Answer) {
         "request" => request(serving, fields, answer),
         "take" => take(serving, fields, answer),
         "respond" => respond(serving, fields, answer),
+        "observe" => observe(serving, fields, answer),
+        "notify" => notify(serving, fields, answer),
         "poll" => poll(&mut serving.node.layer, fields, answer),
         "wake" => wake(&serving.node.layer, answer),
         _ => fields.refuse(),

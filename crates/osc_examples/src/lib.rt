@@ -17,6 +17,7 @@ pub mod keeping;
 pub mod kept;
 pub mod message;
 pub mod messages;
+pub mod observers;
 pub mod observing;
 pub mod peer_handle;
 pub mod protect;

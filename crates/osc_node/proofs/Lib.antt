@@ -2,5 +2,6 @@ mod Asked
 mod Decided
 mod Heard
 mod Noted
+mod Notices
 mod Planned
 mod Taken

@@ -1,4 +1,5 @@
 pub mod Deciding
+pub mod Notifying
 pub mod Planning
 pub mod Requesting
 pub mod Responding

@@ -1,7 +1,7 @@
 -- How the code is seen: how a response is to be sent. old and new are the message layer, before and after the counters of Message IDs.
 use Rattle.std.specs.Prelude.{◌≡◌, ℕ, Some}
 use Rattle.osc_coap.specs.declared.message.Kind.{Kind}
-use Rattle.osc_coap.specs.declared.message.Kind.TheVariants.{Con}
+use Rattle.osc_coap.specs.declared.message.Kind.TheVariants.{Ack, Con, Non}
 use Rattle.osc_message.specs.Calls.{IsFirstReason}
 use Rattle.osc_message.specs.Hearing.{Heard}
 use Rattle.osc_message.specs.HearingCalls.{IsInMind, WayBy}
@@ -20,6 +20,12 @@ abbrev pub id_of : Plan → ℕ
 id_of (plans.InAck id) = id
 id_of (plans.Non id) = id
 id_of (plans.Con to id) = id
+
+-- the Type that the response is sent with (how the code is seen)
+abbrev pub type_of : Plan → Kind
+type_of (plans.InAck id) = Ack
+type_of (plans.Non id) = Non
+type_of (plans.Con to id) = Con
 
 -- the response can be sent so (how the code is seen)
 abbrev pub CanSend : Layer → Arrived → Kind → Plan → Type 0

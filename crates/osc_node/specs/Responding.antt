@@ -3,7 +3,7 @@
 use Rattle.std.specs.Prelude.{◌≡◌, ◌⊎◌, ℕ, List, None, Some}
 use Rattle.osc_coap.specs.Datagram.{IsDatagram, Parts}
 use Rattle.osc_coap.specs.declared.message.Kind.{Kind}
-use Rattle.osc_coap.specs.declared.message.Kind.TheVariants.{Con}
+use Rattle.osc_coap.specs.declared.message.Kind.TheVariants.{Ack, Con, Non}
 use Rattle.osc_life.specs.declared.server_error.ReplyError.{ReplyError}
 use Rattle.osc_message.specs.Calls.{BeginsBy, IsFirstReason}
 use Rattle.osc_message.specs.Hearing.{Heard}
@@ -51,6 +51,12 @@ Responds old new now random a kind id sealed text (responded.Con s) = AnswersBy 
 abbrev pub HasId : Counted → Counted → ℕ → ℕ → ℕ → Responded → Type 0
 HasId before after now request id (responded.InAck len) = (id ≡ request) × (after ≡ before)
 HasId before after now request id r = Gives before after now id
+
+-- the Type of a response, by how it is sent (RFC 7252, 5.2.1 to 5.2.3)
+abbrev pub sent_as : Responded → Kind
+sent_as (responded.InAck len) = Ack
+sent_as (responded.Non len) = Non
+sent_as (responded.Con s) = Con
 
 -- why a response isn't sent: its request isn't in mind, or was answered before; the message layer can't send a CON to where it came from; no Message
 -- ID can be given; or the peer doesn't seal it (own rule: the order)

@@ -5,7 +5,9 @@
 mod deciding;
 mod node;
 mod node_decision;
+mod notifying;
 mod noting;
+mod observing;
 mod planning;
 mod requesting;
 mod responding;
@@ -13,6 +15,7 @@ mod send_error;
 
 pub use node::Node;
 pub use node_decision::{NodeDecided, NodeDecision};
+pub use notifying::Notified;
 pub use requesting::Sent;
 pub use responding::Responded;
-pub use send_error::{RespondError, SendError};
+pub use send_error::{NotifyError, RespondError, SendError};

@@ -7,7 +7,7 @@ ghost use Rattle.osc_message.specs.HearingCalls.{WayBy};
 ghost use Rattle.osc_message.specs.declared.arrival.Way.TheVariants as ways;
 ghost use Rattle.osc_message.specs.LayerViews.{layer_of};
 ghost use Rattle.osc_message.specs.Views.{counted_of};
-ghost use Rattle.osc_node.specs.Planning.{CanSend, Carries, IsPlanned, id_of};
+ghost use Rattle.osc_node.specs.Planning.{CanSend, Carries, IsPlanned, id_of, type_of};
 ghost use Rattle.osc_node.specs.Responding.{IfRefused, IsUnsent, Responds, length_of};
 
 use crate::requesting::Sent;
@@ -34,6 +34,17 @@ impl Plan {
     {
         match self {
             Plan::InAck(id) | Plan::Non(id) | Plan::Con(_, id) => *id,
+        }
+    }
+
+    /// Returns the Type that the response is sent with.
+    pub(crate) fn kind(&self) -> Kind
+        ensures { result ≡ type_of self.now }
+    {
+        match self {
+            Plan::InAck(_) => Kind::Ack,
+            Plan::Non(_) => Kind::Non,
+            Plan::Con(_, _) => Kind::Con,
         }
     }
 }

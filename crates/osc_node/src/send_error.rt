@@ -10,7 +10,7 @@ use std::fmt;
 pub enum SendError {
     /// The message layer can't send it now.
     Layer(BeginError),
-    /// No Message ID can be given now: 32,768 were given in the last 247 s, or all are used.
+    /// No Message ID can be given now: the next half of them isn't begun before 247 s after the present one, or all are used.
     NoMessageId,
     /// The peer doesn't seal it.
     Refused(RequestError),
@@ -63,3 +63,31 @@ impl fmt::Display for RespondError {
 }
 
 impl Error for RespondError {}
+
+/// Why a notification isn't sent. The variants stand in the order in which they are checked.
+#[derive(Clone, Copy, Debug, PartialEq, Eq)]
+pub enum NotifyError {
+    /// The message layer can't send it now: only a CON is refused so.
+    Layer(BeginError),
+    /// No Message ID can be given now: the next half of them isn't begun before 247 s after the present one, or all are used.
+    NoMessageId,
+    /// The peer doesn't seal it.
+    Refused(ReplyError),
+}
+
+impl fmt::Display for NotifyError {
+    ghost use Rattle.std.specs.Prelude.{Some};
+    ghost use Rattle.osc_node.specs.Text.{notify_error_text};
+
+    ghost output = { λ error. Some (notify_error_text error) };
+
+    fn fmt<W: fmt::Write>(&self, f: &mut fmt::Formatter<W>) -> fmt::Result {
+        match self {
+            NotifyError::Layer(error) => error.fmt(f),
+            NotifyError::NoMessageId => f.write_str("NoMessageId"),
+            NotifyError::Refused(error) => error.fmt(f),
+        }
+    }
+}
+
+impl Error for NotifyError {}

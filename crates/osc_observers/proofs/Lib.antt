@@ -1,0 +1,4 @@
+pub mod Daily
+pub mod Listed
+pub mod Once
+pub mod OneEntry

@@ -1,0 +1,10 @@
+use Rattle.std.proofs.Common.{◌≡◌, ℕ, ◌<◌, Some, false}
+use Rattle.std.specs.Prelude.{Option, map, slice_get}
+use Rattle.osc_message.specs.Slots.{holds}
+use Rattle.osc_observers.specs.Views.{place_of}
+use Rattle.osc_observers.specs.Watching.{Watching, is_failed}
+use Rattle.osc_observers.proofs.places.find_failed.Given as goal
+
+-- no observer before passes
+abbrev pub invariant-loop-place : goal.invariant-loop-place
+invariant-loop-place l = (i : ℕ) (o : Option Watching) → i < l.place → slice_get (map place_of l.places) i ≡ Some o → holds (is_failed l.call) o ≡ false
